@@ -2,7 +2,12 @@
 //! lists, the enums of words and the records of jobs, runs and callbacks.
 #![tactic(auto)]
 
-pub mod numbers;
 pub mod no_memory;
+pub mod numbers;
+pub mod seq;
+pub mod text;
 
 pub use no_memory::NoMemory;
+pub use numbers::{AdminNo, Edition, ExecutorNo, GroupId, JobId, LogId, Moment, Offset, RunnerNo};
+pub use seq::Seq;
+pub use text::Text;

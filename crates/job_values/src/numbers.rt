@@ -1,12 +1,14 @@
 //! The numbers of the scheduler, each within its bounds: moments, ids, node numbers and the offset.
-ghost use Rattle.std.specs.Prelude.{◌≡◌, ℕ, ◌≤◌, ◌&&◌, nat_le, if◌then◌else◌};
+ghost use Rattle.std.specs.Prelude.{◌≡◌, ℕ, ℤ, pos, negsuc, ◌≤◌, ◌≤ℤ◌, ◌&&◌, nat_le, int_le, if◌then◌else◌};
+
+ghost use Rattle.job_values.specs.declared.numbers.TheConstants.{LAST_MOMENT, LAST_JOB_ID, LAST_LOG_ID, LAST_ADMIN, LAST_RUNNER, LAST_OFFSET};
 
 use std::marker::Model;
 
 /// The last moment, 2099-12-31T23:59:59.999Z in milliseconds since 1970-01-01T00:00:00Z.
 pub const LAST_MOMENT: u64 = 4_102_444_799_999;
 
-/// The greatest group or job id.
+/// The greatest group id, and the greatest job id.
 pub const LAST_JOB_ID: u32 = 2_147_483_647;
 
 /// The greatest log id.
@@ -16,10 +18,13 @@ pub const LAST_LOG_ID: u64 = 9_223_372_036_854_775_807;
 pub const LAST_ADMIN: u8 = 15;
 
 /// The greatest number of an executor, and of a runner.
-pub const LAST_EXECUTOR: u8 = 63;
+pub const LAST_RUNNER: u8 = 63;
 
-/// The greatest distance of a civil clock from UTC, in seconds.
+/// The greatest distance of the civil clock from UTC, in seconds.
 pub const LAST_OFFSET: i32 = 64_800;
+
+/// How often a job was started, stopped or updated.
+pub type Edition = u64;
 
 /// Milliseconds since 1970-01-01T00:00:00Z, from 0 to `LAST_MOMENT`.
 #[derive(Clone, Copy, Debug, PartialEq, Eq, PartialOrd, Ord)]
@@ -30,20 +35,20 @@ pub struct Moment {
 impl Model for Moment {
     ghost Value = { ℕ };
 
-    ghost view = { λ m. m.ms };
+    ghost view = { λ a. a.ms };
 
-    ghost invariant = { λ m. m.ms ≤ 4102444799999 };
+    ghost invariant = { λ a. a.ms ≤ LAST_MOMENT };
 
     ghost inverse = { λ n. record { ms = n } };
 }
 
 impl Moment {
     /// None exactly above `LAST_MOMENT`.
-    pub fn new(ms: u64) -> Option<Moment>
-        ensures { result ≡ (if nat_le ms 4102444799999 then Some ms else None) }
+    pub fn new(n: u64) -> Option<Moment>
+        ensures { result ≡ (if nat_le n LAST_MOMENT then Some n else None) }
     {
-        if ms <= LAST_MOMENT {
-            Some(Moment { ms })
+        if n <= LAST_MOMENT {
+            Some(Moment { ms: n })
         } else {
             None
         }
@@ -52,8 +57,271 @@ impl Moment {
     /// The number of milliseconds.
     pub fn get(self) -> u64
         ensures value { result ≡ self }
-        ensures bound { result ≤ 4102444799999 }
+        ensures most { result ≤ LAST_MOMENT }
     {
         self.ms
+    }
+}
+
+/// The id of a group, from 1 to `LAST_JOB_ID`.
+#[derive(Clone, Copy, Debug, PartialEq, Eq, PartialOrd, Ord)]
+pub struct GroupId {
+    number: u32,
+}
+
+impl Model for GroupId {
+    ghost Value = { ℕ };
+
+    ghost view = { λ a. a.number };
+
+    ghost invariant = { λ a. (1 ≤ a.number) × (a.number ≤ LAST_JOB_ID) };
+
+    ghost inverse = { λ n. record { number = n } };
+}
+
+impl GroupId {
+    /// None exactly at 0 and above `LAST_JOB_ID`.
+    pub fn new(n: u32) -> Option<GroupId>
+        ensures { result ≡ (if nat_le 1 n && nat_le n LAST_JOB_ID then Some n else None) }
+    {
+        if n >= 1 && n <= LAST_JOB_ID {
+            Some(GroupId { number: n })
+        } else {
+            None
+        }
+    }
+
+    /// The number that `new` took.
+    pub fn get(self) -> u32
+        ensures value { result ≡ self }
+        ensures least { 1 ≤ result }
+        ensures most { result ≤ LAST_JOB_ID }
+    {
+        self.number
+    }
+}
+
+/// The id of a job, from 1 to `LAST_JOB_ID`.
+#[derive(Clone, Copy, Debug, PartialEq, Eq, PartialOrd, Ord)]
+pub struct JobId {
+    number: u32,
+}
+
+impl Model for JobId {
+    ghost Value = { ℕ };
+
+    ghost view = { λ a. a.number };
+
+    ghost invariant = { λ a. (1 ≤ a.number) × (a.number ≤ LAST_JOB_ID) };
+
+    ghost inverse = { λ n. record { number = n } };
+}
+
+impl JobId {
+    /// None exactly at 0 and above `LAST_JOB_ID`.
+    pub fn new(n: u32) -> Option<JobId>
+        ensures { result ≡ (if nat_le 1 n && nat_le n LAST_JOB_ID then Some n else None) }
+    {
+        if n >= 1 && n <= LAST_JOB_ID {
+            Some(JobId { number: n })
+        } else {
+            None
+        }
+    }
+
+    /// The number that `new` took.
+    pub fn get(self) -> u32
+        ensures value { result ≡ self }
+        ensures least { 1 ≤ result }
+        ensures most { result ≤ LAST_JOB_ID }
+    {
+        self.number
+    }
+}
+
+/// The id of a log, from 1 to `LAST_LOG_ID`.
+#[derive(Clone, Copy, Debug, PartialEq, Eq, PartialOrd, Ord)]
+pub struct LogId {
+    number: u64,
+}
+
+impl Model for LogId {
+    ghost Value = { ℕ };
+
+    ghost view = { λ a. a.number };
+
+    ghost invariant = { λ a. (1 ≤ a.number) × (a.number ≤ LAST_LOG_ID) };
+
+    ghost inverse = { λ n. record { number = n } };
+}
+
+impl LogId {
+    /// None exactly at 0 and above `LAST_LOG_ID`.
+    pub fn new(n: u64) -> Option<LogId>
+        ensures { result ≡ (if nat_le 1 n && nat_le n LAST_LOG_ID then Some n else None) }
+    {
+        if n >= 1 && n <= LAST_LOG_ID {
+            Some(LogId { number: n })
+        } else {
+            None
+        }
+    }
+
+    /// The number that `new` took.
+    pub fn get(self) -> u64
+        ensures value { result ≡ self }
+        ensures least { 1 ≤ result }
+        ensures most { result ≤ LAST_LOG_ID }
+    {
+        self.number
+    }
+}
+
+/// The number of an admin node, from 0 to `LAST_ADMIN`.
+#[derive(Clone, Copy, Debug, PartialEq, Eq, PartialOrd, Ord)]
+pub struct AdminNo {
+    number: u8,
+}
+
+impl Model for AdminNo {
+    ghost Value = { ℕ };
+
+    ghost view = { λ a. a.number };
+
+    ghost invariant = { λ a. a.number ≤ LAST_ADMIN };
+
+    ghost inverse = { λ n. record { number = n } };
+}
+
+impl AdminNo {
+    /// None exactly above `LAST_ADMIN`.
+    pub fn new(n: u8) -> Option<AdminNo>
+        ensures { result ≡ (if nat_le n LAST_ADMIN then Some n else None) }
+    {
+        if n <= LAST_ADMIN {
+            Some(AdminNo { number: n })
+        } else {
+            None
+        }
+    }
+
+    /// The number that `new` took.
+    pub fn get(self) -> u8
+        ensures value { result ≡ self }
+        ensures most { result ≤ LAST_ADMIN }
+    {
+        self.number
+    }
+}
+
+/// The number of an executor, from 0 to `LAST_RUNNER`.
+#[derive(Clone, Copy, Debug, PartialEq, Eq, PartialOrd, Ord)]
+pub struct ExecutorNo {
+    number: u8,
+}
+
+impl Model for ExecutorNo {
+    ghost Value = { ℕ };
+
+    ghost view = { λ a. a.number };
+
+    ghost invariant = { λ a. a.number ≤ LAST_RUNNER };
+
+    ghost inverse = { λ n. record { number = n } };
+}
+
+impl ExecutorNo {
+    /// None exactly above `LAST_RUNNER`.
+    pub fn new(n: u8) -> Option<ExecutorNo>
+        ensures { result ≡ (if nat_le n LAST_RUNNER then Some n else None) }
+    {
+        if n <= LAST_RUNNER {
+            Some(ExecutorNo { number: n })
+        } else {
+            None
+        }
+    }
+
+    /// The number that `new` took.
+    pub fn get(self) -> u8
+        ensures value { result ≡ self }
+        ensures most { result ≤ LAST_RUNNER }
+    {
+        self.number
+    }
+}
+
+/// The number of a runner of an executor, from 0 to `LAST_RUNNER`.
+#[derive(Clone, Copy, Debug, PartialEq, Eq, PartialOrd, Ord)]
+pub struct RunnerNo {
+    number: u8,
+}
+
+impl Model for RunnerNo {
+    ghost Value = { ℕ };
+
+    ghost view = { λ a. a.number };
+
+    ghost invariant = { λ a. a.number ≤ LAST_RUNNER };
+
+    ghost inverse = { λ n. record { number = n } };
+}
+
+impl RunnerNo {
+    /// None exactly above `LAST_RUNNER`.
+    pub fn new(n: u8) -> Option<RunnerNo>
+        ensures { result ≡ (if nat_le n LAST_RUNNER then Some n else None) }
+    {
+        if n <= LAST_RUNNER {
+            Some(RunnerNo { number: n })
+        } else {
+            None
+        }
+    }
+
+    /// The number that `new` took.
+    pub fn get(self) -> u8
+        ensures value { result ≡ self }
+        ensures most { result ≤ LAST_RUNNER }
+    {
+        self.number
+    }
+}
+
+/// How far the civil clock is ahead of UTC, in seconds, from `-LAST_OFFSET` to `LAST_OFFSET`.
+#[derive(Clone, Copy, Debug, PartialEq, Eq, PartialOrd, Ord)]
+pub struct Offset {
+    seconds: i32,
+}
+
+impl Model for Offset {
+    ghost Value = { ℤ };
+
+    ghost view = { λ a. a.seconds };
+
+    ghost invariant = { λ a. (negsuc 64799 ≤ℤ a.seconds) × (a.seconds ≤ℤ LAST_OFFSET) };
+
+    ghost inverse = { λ n. record { seconds = n } };
+}
+
+impl Offset {
+    /// None exactly outside these bounds.
+    pub fn new(n: i32) -> Option<Offset>
+        ensures { result ≡ (if int_le (negsuc 64799) n && int_le n LAST_OFFSET then Some n else None) }
+    {
+        if n >= -LAST_OFFSET && n <= LAST_OFFSET {
+            Some(Offset { seconds: n })
+        } else {
+            None
+        }
+    }
+
+    /// The number of seconds.
+    pub fn get(self) -> i32
+        ensures value { result ≡ self }
+        ensures least { negsuc 64799 ≤ℤ result }
+        ensures most { result ≤ℤ LAST_OFFSET }
+    {
+        self.seconds
     }
 }

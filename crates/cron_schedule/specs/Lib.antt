@@ -1,4 +1,12 @@
 pub mod Number
 pub mod Rate
+pub mod Field
+pub mod Sets
+pub mod First
+pub mod Tables
+pub mod CronTables
+pub mod Calendar
+pub mod Days
+pub mod Due
 pub mod Parse
 pub mod After

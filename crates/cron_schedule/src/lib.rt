@@ -2,12 +2,16 @@
 //! into a `Schedule`, which then tells the due times after a moment.
 #![tactic(auto)]
 
+pub mod cron;
+mod days;
 pub mod fault;
+pub mod item;
 pub mod laws;
 mod number;
 pub mod plan;
 mod rate;
 pub mod schedule;
+mod sets;
 
 pub use fault::ParseFault;
 pub use plan::Plan;

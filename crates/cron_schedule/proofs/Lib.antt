@@ -1,0 +1,4 @@
+pub mod FirstLemmas
+pub mod TableLemmas
+pub mod DayLemmas
+pub mod CivilLemmas

@@ -1,0 +1,218 @@
+//! A cron text's items with tables of their sets, and the search for its due times.
+ghost use Rattle.std.specs.Prelude.{◌≡◌, ◌+◌, ◌-◌, ◌<◌, ◌≤◌, ◌&&◌, IfOk, pos};
+ghost use Rattle.cron_schedule.specs.First.{IsFirst};
+ghost use Rattle.cron_schedule.specs.Calendar.{weekday_on};
+ghost use Rattle.cron_schedule.specs.CronTables.{is_plain, are_plain};
+ghost use Rattle.cron_schedule.specs.Days.{year_in_field, day_in_field, weekday_in_field};
+ghost use Rattle.cron_schedule.specs.Due.{is_day_due, is_hour_second_due, is_second_due, is_local_due};
+
+use super::days::{Day, is_day_in_field, is_weekday_in_field};
+use super::item::{FieldItem, Item};
+use super::sets::{has, next_in, table_of};
+use jiff_core::civil::{Date, days_in_month};
+use job_values::steps::Steps;
+use job_values::{NoMemory, Seq};
+use std::alloc::Global;
+use std::marker::Model;
+use std::sync::ledger::Ledger;
+
+/// The days from 1970-01-01 to 2099-12-31.
+pub const DAYS: u32 = 47_482;
+
+/// The seconds of these days.
+pub const SECONDS: u32 = 4_102_444_800;
+
+/// How many days lie between the first date of the library and 1970-01-01.
+const FIRST_DAYS: u32 = 4_371_587;
+
+/// The items of a cron text, each with its field, in the order of the text.
+#[derive(Debug, Drop)]
+pub struct Cron {
+    items: Seq<FieldItem>,
+    seconds: [u8; 61],
+    minutes: [u8; 61],
+    hours: [u8; 25],
+    days: [u8; 33],
+    months: [u8; 14],
+    weekdays: [u8; 9],
+    years: [u8; 131],
+    plain: bool,
+}
+
+impl Model for Cron {
+    ghost use Rattle.std.specs.Prelude.{List};
+    ghost use Rattle.cron_schedule.specs.declared.item.FieldItem.{FieldItem};
+    ghost use Rattle.cron_schedule.specs.CronTables.{AgreeWith};
+
+    ghost Value = { List FieldItem };
+
+    ghost view = { λ c. c.items };
+
+    ghost invariant = { λ c. AgreeWith c.items c.seconds c.minutes c.hours c.days c.months c.weekdays c.years c.plain };
+}
+
+impl Cron {
+    /// The items with their tables. It takes no memory.
+    pub fn of(items: Seq<FieldItem>) -> Cron
+        ensures { result ≡ items }
+    {
+        let list = items.as_slice();
+        let seconds = table_of::<61>(1, 0, list);
+        let minutes = table_of::<61>(2, 0, list);
+        let hours = table_of::<25>(3, 0, list);
+        let days = table_of::<33>(4, 0, list);
+        let months = table_of::<14>(5, 0, list);
+        let weekdays = table_of::<9>(6, 0, list);
+        let years = table_of::<131>(7, 1970, list);
+        let plain = all_plain(list);
+        Cron {
+            items,
+            seconds,
+            minutes,
+            hours,
+            days,
+            months,
+            weekdays,
+            years,
+            plain,
+        }
+    }
+
+    /// Another list of the same items.
+    pub fn copy(&self, alloc: Global) -> Result<Cron, NoMemory>
+        ensures { IfOk result (λ c. c ≡ self.now) }
+    {
+        let items = self.items.copy(alloc)?;
+        Ok(Cron {
+            items,
+            seconds: self.seconds,
+            minutes: self.minutes,
+            hours: self.hours,
+            days: self.days,
+            months: self.months,
+            weekdays: self.weekdays,
+            years: self.years,
+            plain: self.plain,
+        })
+    }
+
+    fn is_year_in(&self, year: i16) -> bool
+        ensures { result ≡ year_in_field self.now year }
+    {
+        if year < 1970 || year > 2099 {
+            return false;
+        }
+        has(&self.years, year as u32 - 1970)
+    }
+
+    fn is_date_in(&self, date: Date, weekday: u32) -> bool
+        requires { weekday ≡ weekday_on date.year date.month date.day }
+        ensures { result ≡ (day_in_field self.now date.year date.month date.day && weekday_in_field self.now date.year date.month date.day) }
+    {
+        if self.plain {
+            return has(&self.days, date.day as u32) && has(&self.weekdays, (weekday + 1) % 7 + 1);
+        }
+        let day = Day {
+            date,
+            length: days_in_month(date.year, date.month) as u32,
+            weekday,
+        };
+        let items = self.items.as_slice();
+        is_day_in_field(items, &day) && is_weekday_in_field(items, &day)
+    }
+
+    /// Whether the day that many days after 1970-01-01 is in the four sets of days: one step.
+    pub fn is_due_on<L: Ledger>(&self, day: u32, steps: &mut Steps<L>) -> bool
+        requires { day < DAYS }
+        ensures due { result ≡ is_day_due self.now day }
+        ensures cost { steps.new ≡ steps.old + 1 }
+    {
+        steps.tick();
+        let date = Date::from_days_since_min(day + FIRST_DAYS);
+        if !self.is_year_in(date.year) || !has(&self.months, date.month as u32) {
+            return false;
+        }
+        self.is_date_in(date, (day + 3) % 7)
+    }
+
+    fn first_in_hour(&self, from: u32) -> Option<u32>
+        requires { from < 3600 }
+        ensures { IsFirst (is_hour_second_due self.now) from 3600 result }
+    {
+        let minute = from / 60;
+        if has(&self.minutes, minute) {
+            if let Some(second) = next_in(&self.seconds, from % 60) {
+                return Some(minute * 60 + second);
+            }
+        }
+        let second = next_in(&self.seconds, 0)?;
+        let minute = next_in(&self.minutes, minute + 1)?;
+        Some(minute * 60 + second)
+    }
+
+    fn first_in_day(&self, from: u32) -> Option<u32>
+        requires { from < 86400 }
+        ensures { IsFirst (is_second_due self.now) from 86400 result }
+    {
+        let hour = from / 3600;
+        if has(&self.hours, hour) {
+            if let Some(second) = self.first_in_hour(from % 3600) {
+                return Some(hour * 3600 + second);
+            }
+        }
+        let second = self.first_in_hour(0)?;
+        let hour = next_in(&self.hours, hour + 1)?;
+        Some(hour * 3600 + second)
+    }
+
+    fn first_day<L: Ledger>(&self, from: u32, steps: &mut Steps<L>) -> Option<u32>
+        requires { from ≤ DAYS }
+        ensures first { IsFirst (is_day_due self.now) from DAYS result }
+        ensures cost { steps.new ≤ steps.old + (DAYS - from) }
+    {
+        for day in from..DAYS {
+            if self.is_due_on(day, steps) {
+                return Some(day);
+            }
+        }
+        None
+    }
+
+    /// The first second of the civil clock from `from` on, in seconds since 1970-01-01T00:00:00,
+    /// that is in the seven sets.
+    pub fn first_second<L: Ledger>(&self, from: u32, steps: &mut Steps<L>) -> Option<u32>
+        requires { from < SECONDS }
+        ensures first { IsFirst (is_local_due self.now) from SECONDS result }
+        ensures cost { steps.new ≤ steps.old + DAYS }
+    {
+        let day = from / 86_400;
+        if self.is_due_on(day, steps) {
+            if let Some(second) = self.first_in_day(from % 86_400) {
+                return Some(day * 86_400 + second);
+            }
+        }
+        let second = self.first_in_day(0)?;
+        let day = self.first_day(day + 1, steps)?;
+        Some(day * 86_400 + second)
+    }
+}
+
+fn is_plain_item(item: &Item) -> bool
+    ensures { result ≡ is_plain item.now }
+{
+    match item {
+        Item::Values(_) => true,
+        Item::Free => true,
+        Item::Last(_) => false,
+        Item::LastWorkday => false,
+        Item::Workday(_) => false,
+        Item::LastWeekday(_) => false,
+        Item::NthWeekday(_, _) => false,
+    }
+}
+
+fn all_plain(items: &[FieldItem]) -> bool
+    ensures { result ≡ are_plain items.now }
+{
+    items.iter().all(|i| is_plain_item(&i.item))
+}

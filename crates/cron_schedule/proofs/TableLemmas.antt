@@ -1,11 +1,11 @@
 -- What a table of the next values of a set tells.
-use Rattle.std.proofs.Common.{◌≡◌, ℕ, suc, ◌+◌, ◌-◌, ◌<◌, ◌≤◌, Bool, true, false, Option, Some, None, List, nat_eq, refl, sym, ap, ◌∙◌, arith, if◌then◌else◌, inl, inr, ◌⊎◌}
+use Rattle.std.proofs.Common.{◌≡◌, ℕ, zero, suc, ◌+◌, ◌-◌, ◌<◌, ◌≤◌, Bool, true, false, Option, Some, None, List, nat_eq, refl, sym, ap, ◌∙◌, arith, if◌then◌else◌, inl, inr}
 use Rattle.std.specs.Prelude.{unwrap_or, slice_index}
 use Rattle.std.proofs.lemmas.Bool.{cases_lt}
 use Rattle.std.proofs.lemmas.Bool.Decides.{nat_tests}
 use Rattle.cron_schedule.specs.First.{first_from, first_in, NonePasses, IsFirstAt, IsFirst}
 use Rattle.cron_schedule.specs.Tables.{IsFirsts, IsFirstsFrom}
-use Rattle.std.proofs.Common.{get_or, length, replicate, get_or-set_other, get_or-set_same, ◌≢◌}
+use Rattle.std.proofs.Common.{length, get_or-set_other, get_or-set_same, ◌≢◌}
 use Rattle.std.proofs.Math.ListN.{set}
 use Rattle.cron_schedule.proofs.FirstLemmas.{IsFirst-first_in, cases_test}
 
@@ -117,3 +117,14 @@ firsts_more test size at new table pos le room h e = record {
 
 pub firsts_all : (test : ℕ → Bool) (size : ℕ) (table : List ℕ) → IsFirstsFrom test 0 size table → IsFirsts test size table
 firsts_all test size table h = record { next = λ v le. h.next v (omega arith) le }
+
+first_from-same : (test other : ℕ → Bool) (v n : ℕ) → ((w : ℕ) → other w ≡ test w) → first_from other v n ≡ first_from test v n
+unfolding first_from
+first_from-same test other v zero same = refl
+first_from-same test other v (suc n) same = rw (same v, first_from-same test other (v + 1) n same)
+
+-- a table of a set is one of each test that says the same
+pub IsFirsts-same : (test other : ℕ → Bool) (size : ℕ) (table : List ℕ) → ((w : ℕ) → other w ≡ test w) → IsFirsts test size table → IsFirsts other size table
+IsFirsts-same test other size table same h = record {
+  next = λ v le. rw (first_from-same test other v (size - v) same) (h.next v le)
+}

@@ -2,7 +2,9 @@
 use Rattle.std.specs.Prelude.{◌≡◌, ℕ, ◌+◌, ◌*◌, ◌<◌, ◌≤◌, ℤ, nat_le, nat_lt, ◌&&◌, Option, Some, None, if◌then◌else◌}
 use Rattle.job_values.specs.declared.numbers.TheConstants.{LAST_MOMENT}
 use Rattle.cron_schedule.specs.declared.plan.Plan.{Plan}
-use Rattle.cron_schedule.specs.declared.plan.Plan.TheVariants.{Never, Every}
+use Rattle.cron_schedule.specs.declared.plan.Plan.TheVariants.{Never, Every, Cron}
+use Rattle.cron_schedule.specs.First.{first_in}
+use Rattle.cron_schedule.specs.Due.{is_due}
 
 -- so many seconds after a moment, if that is later and no moment above the last
 abbrev pub after_seconds : ℕ → ℕ → Option ℕ
@@ -13,6 +15,7 @@ after_seconds seconds t =
 abbrev pub time_after : Plan → ℤ → ℕ → Option ℕ
 time_after Never offset t = None
 time_after (Every seconds) offset t = after_seconds seconds t
+time_after (Cron items) offset t = first_in (is_due items offset) (t + 1) (LAST_MOMENT + 1)
 
 -- a time after a moment is later than it, and not above the last moment
 abbrev pub TimesRise : Type 0

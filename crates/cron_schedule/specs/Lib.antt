@@ -8,5 +8,6 @@ pub mod CronTables
 pub mod Calendar
 pub mod Days
 pub mod Due
+pub mod Civil
 pub mod Parse
 pub mod After

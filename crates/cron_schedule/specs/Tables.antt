@@ -1,5 +1,5 @@
 -- Tables of the next value of a set.
-use Rattle.std.specs.Prelude.{◌≡◌, ℕ, ◌≤◌, Bool, Option, Some, None, unwrap_or, List, slice_index}
+use Rattle.std.specs.Prelude.{◌≡◌, ℕ, ◌≤◌, Bool, unwrap_or, List, slice_index}
 use Rattle.cron_schedule.specs.First.{first_in}
 
 -- for each number up to the size, the first number from it on that passes, or the size for none

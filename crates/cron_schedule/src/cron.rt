@@ -1,5 +1,5 @@
 //! A cron text's items with tables of their sets, and the search for its due times.
-ghost use Rattle.std.specs.Prelude.{◌≡◌, ◌+◌, ◌-◌, ◌<◌, ◌≤◌, ◌&&◌, IfOk, pos};
+ghost use Rattle.std.specs.Prelude.{◌≡◌, ◌+◌, ◌-◌, ◌<◌, ◌≤◌, ◌&&◌, ◌⊎◌, IfOk, IfSome, IfNone, pos, ◌<ℤ◌};
 ghost use Rattle.cron_schedule.specs.First.{IsFirst};
 ghost use Rattle.cron_schedule.specs.Calendar.{weekday_on};
 ghost use Rattle.cron_schedule.specs.CronTables.{is_plain, are_plain};
@@ -96,13 +96,13 @@ impl Cron {
         })
     }
 
-    fn is_year_in(&self, year: i16) -> bool
-        ensures { result ≡ year_in_field self.now year }
+    fn is_year_in(&self, date: &Date) -> bool
+        ensures { result ≡ year_in_field self.now date.now.year }
     {
-        if year < 1970 || year > 2099 {
-            return false;
+        match years_since_1970(date) {
+            Some(years) => has(&self.years, 130, years),
+            None => false,
         }
-        has(&self.years, year as u32 - 1970)
     }
 
     fn is_date_in(&self, date: Date, weekday: u32) -> bool
@@ -110,7 +110,7 @@ impl Cron {
         ensures { result ≡ (day_in_field self.now date.year date.month date.day && weekday_in_field self.now date.year date.month date.day) }
     {
         if self.plain {
-            return has(&self.days, date.day as u32) && has(&self.weekdays, (weekday + 1) % 7 + 1);
+            return has(&self.days, 32, date.day as u32) && has(&self.weekdays, 8, (weekday + 1) % 7 + 1);
         }
         let day = Day {
             date,
@@ -129,7 +129,7 @@ impl Cron {
     {
         steps.tick();
         let date = Date::from_days_since_min(day + FIRST_DAYS);
-        if !self.is_year_in(date.year) || !has(&self.months, date.month as u32) {
+        if !self.is_year_in(&date) || !has(&self.months, 13, date.month as u32) {
             return false;
         }
         self.is_date_in(date, (day + 3) % 7)
@@ -140,13 +140,13 @@ impl Cron {
         ensures { IsFirst (is_hour_second_due self.now) from 3600 result }
     {
         let minute = from / 60;
-        if has(&self.minutes, minute) {
-            if let Some(second) = next_in(&self.seconds, from % 60) {
+        if has(&self.minutes, 60, minute) {
+            if let Some(second) = next_in(&self.seconds, 60, from % 60) {
                 return Some(minute * 60 + second);
             }
         }
-        let second = next_in(&self.seconds, 0)?;
-        let minute = next_in(&self.minutes, minute + 1)?;
+        let second = next_in(&self.seconds, 60, 0)?;
+        let minute = next_in(&self.minutes, 60, minute + 1)?;
         Some(minute * 60 + second)
     }
 
@@ -155,13 +155,13 @@ impl Cron {
         ensures { IsFirst (is_second_due self.now) from 86400 result }
     {
         let hour = from / 3600;
-        if has(&self.hours, hour) {
+        if has(&self.hours, 24, hour) {
             if let Some(second) = self.first_in_hour(from % 3600) {
                 return Some(hour * 3600 + second);
             }
         }
         let second = self.first_in_hour(0)?;
-        let hour = next_in(&self.hours, hour + 1)?;
+        let hour = next_in(&self.hours, 24, hour + 1)?;
         Some(hour * 3600 + second)
     }
 
@@ -195,6 +195,17 @@ impl Cron {
         let day = self.first_day(day + 1, steps)?;
         Some(day * 86_400 + second)
     }
+}
+
+fn years_since_1970(date: &Date) -> Option<u32>
+    ensures some { IfSome result (λ n. (date.now.year ≡ pos (1970 + n)) × (n < 130)) }
+    ensures none { IfNone result ((date.now.year <ℤ pos 1970) ⊎ (pos 2099 <ℤ date.now.year)) }
+{
+    let year = date.year as i32;
+    if year < 1970 || year > 2099 {
+        return None;
+    }
+    Some(year as u32 - 1970)
 }
 
 fn is_plain_item(item: &Item) -> bool

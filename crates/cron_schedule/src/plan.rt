@@ -1,5 +1,7 @@
 //! What a schedule says, as contracts see it.
 
+use super::cron::Cron;
+
 /// What a schedule says: when a job is due.
 #[derive(Debug, Drop)]
 pub enum Plan {
@@ -7,4 +9,6 @@ pub enum Plan {
     Never,
     /// So many seconds after the time before.
     Every(u32),
+    /// At the moments whose civil time is in the seven sets of a cron text.
+    Cron(Cron),
 }

@@ -1,14 +1,21 @@
 //! A schedule: read from its text once, it tells the due times after a moment.
-ghost use Rattle.std.specs.Prelude.{◌≡◌, IfOk};
+ghost use Rattle.std.specs.Prelude.{◌≡◌, ◌+◌, ◌/◌, ◌<◌, ◌≤◌, IfOk, IfSome, IfNone, pos, ◌+ℤ◌, ◌≤ℤ◌};
+ghost use Rattle.job_values.specs.declared.numbers.TheConstants.{LAST_MOMENT};
+ghost use Rattle.cron_schedule.specs.First.{first_in};
+ghost use Rattle.cron_schedule.specs.Due.{is_due};
+ghost use Rattle.cron_schedule.specs.Civil.{IsStart, IsMomentOf};
 ghost use Rattle.cron_schedule.specs.Parse.{parsed, Gives};
 ghost use Rattle.cron_schedule.specs.After.{time_after, after_seconds};
 
+use super::cron::{Cron, SECONDS};
 use super::fault::ParseFault;
 use super::plan::Plan;
 use super::rate::read_rate;
+use job_values::steps::Steps;
 use job_values::{Moment, NoMemory, Offset, ScheduleFault, ScheduleKind, Text};
 use std::alloc::Global;
-use std::marker::Model;
+use std::marker::{Brand, Model};
+use std::sync::ledger::{Blank, Ledger};
 
 /// The greatest number of bytes that a schedule's text has.
 pub const LONGEST_TEXT: usize = 128;
@@ -57,10 +64,23 @@ impl Schedule {
     pub fn after(&self, t: Moment, offset: Offset) -> Option<Moment>
         ensures { result ≡ time_after self.now offset t }
     {
-        let _ = offset;
+        uncounted_after::<Brand>(self, t, offset, Blank::new(1))
+    }
+
+    /// The same, with a step for each day that is tested.
+    pub fn after_counted<L: Ledger>(
+        &self,
+        t: Moment,
+        offset: Offset,
+        steps: &mut Steps<L>,
+    ) -> Option<Moment>
+        ensures time { result ≡ time_after self.now offset t }
+        ensures cost { steps.new ≤ steps.old + 47482 }
+    {
         match &self.plan {
             Plan::Never => None,
             Plan::Every(seconds) => after_rate(t, *seconds),
+            Plan::Cron(cron) => after_cron(cron, t, offset, steps),
         }
     }
 
@@ -68,13 +88,78 @@ impl Schedule {
     pub fn copy(&self, alloc: Global) -> Result<Schedule, NoMemory>
         ensures { IfOk result (λ s. s ≡ self.now) }
     {
-        let _ = alloc;
         match &self.plan {
             Plan::Never => Ok(Schedule { plan: Plan::Never }),
             Plan::Every(seconds) => Ok(Schedule {
                 plan: Plan::Every(*seconds),
             }),
+            Plan::Cron(cron) => {
+                let cron = cron.copy(alloc)?;
+                Ok(Schedule {
+                    plan: Plan::Cron(cron),
+                })
+            }
         }
+    }
+}
+
+fn uncounted_after<L: Ledger>(
+    schedule: &Schedule,
+    t: Moment,
+    offset: Offset,
+    blank: Blank,
+) -> Option<Moment>
+    requires name { blank.name ≡ L.name }
+    requires parts { blank.parts ≡ L.parts }
+    requires some { 0 < L.parts }
+    ensures { result ≡ time_after schedule.now offset t }
+{
+    let mut steps = Steps::<L>::none(blank);
+    schedule.after_counted(t, offset, &mut steps)
+}
+
+/// The first second from 1970 on, of a clock so far ahead of UTC, that is later than `t`; None
+/// after 2099.
+fn start_second(t: Moment, offset: Offset) -> Option<u32>
+    ensures some { IfSome result (λ from. IsStart offset t from × (from < SECONDS)) }
+    ensures none { IfNone result (pos SECONDS ≤ℤ (pos (t / 1000 + 1) +ℤ offset)) }
+{
+    let second = (t.get() / 1000 + 1) as i64 + offset.get() as i64;
+    if second >= SECONDS as i64 {
+        None
+    } else if second < 0 {
+        Some(0)
+    } else {
+        Some(second as u32)
+    }
+}
+
+/// The moment of a second of a clock so far ahead of UTC; None above the last moment.
+fn moment_of(second: u32, offset: Offset) -> Option<Moment>
+    ensures { IsMomentOf offset second result }
+{
+    let utc = second as i64 - offset.get() as i64;
+    if utc < 0 {
+        return None;
+    }
+    Moment::new(1000 * utc as u64)
+}
+
+fn after_cron<L: Ledger>(
+    cron: &Cron,
+    t: Moment,
+    offset: Offset,
+    steps: &mut Steps<L>,
+) -> Option<Moment>
+    ensures time { result ≡ first_in (is_due cron.now offset) (t + 1) (LAST_MOMENT + 1) }
+    ensures cost { steps.new ≤ steps.old + 47482 }
+{
+    match start_second(t, offset) {
+        None => None,
+        Some(from) => match cron.first_second(from, steps) {
+            None => None,
+            Some(second) => moment_of(second, offset),
+        },
     }
 }
 

@@ -101,18 +101,20 @@ pub fn table_of<const N: usize>(field: u8, start: u32, items: &[FieldItem]) -> [
 }
 
 /// The first number of a table's set from `at` on, if there is one.
-pub fn next_in(table: &[u8], at: u32) -> Option<u32>
-    requires { at < length table.now }
-    ensures { (test : ℕ → Bool) → IsFirsts test (length table.now - 1) table.now → IsFirst test at (length table.now - 1) result }
+pub fn next_in(table: &[u8], size: u32, at: u32) -> Option<u32>
+    requires long { length table.now ≡ size + 1 }
+    requires within { at ≤ size }
+    ensures { (test : ℕ → Bool) → IsFirsts test size table.now → IsFirst test at size result }
 {
     let next = table[at as usize] as u32;
-    if (next as usize) < table.len() - 1 { Some(next) } else { None }
+    if next < size { Some(next) } else { None }
 }
 
 /// Whether a number is in a table's set.
-pub fn has(table: &[u8], at: u32) -> bool
-    requires { at + 1 < length table.now }
-    ensures { (test : ℕ → Bool) → IsFirsts test (length table.now - 1) table.now → result ≡ test at }
+pub fn has(table: &[u8], size: u32, at: u32) -> bool
+    requires long { length table.now ≡ size + 1 }
+    requires within { at < size }
+    ensures { (test : ℕ → Bool) → IsFirsts test size table.now → result ≡ test at }
 {
     table[at as usize] as u32 == at
 }

@@ -9,5 +9,8 @@ pub mod Calendar
 pub mod Days
 pub mod Due
 pub mod Civil
+pub mod Pieces
+pub mod Reading
+pub mod CronText
 pub mod Parse
 pub mod After

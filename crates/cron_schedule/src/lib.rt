@@ -3,13 +3,16 @@
 #![tactic(auto)]
 
 pub mod cron;
+mod cron_text;
 mod days;
 pub mod fault;
 pub mod item;
 pub mod laws;
 mod number;
+mod piece;
 pub mod plan;
 mod rate;
+mod reading;
 pub mod schedule;
 mod sets;
 

@@ -8,6 +8,7 @@ ghost use Rattle.cron_schedule.specs.Parse.{parsed, Gives};
 ghost use Rattle.cron_schedule.specs.After.{time_after, after_seconds};
 
 use super::cron::{Cron, SECONDS};
+use super::cron_text::read_cron;
 use super::fault::ParseFault;
 use super::plan::Plan;
 use super::rate::read_rate;
@@ -39,7 +40,6 @@ impl Schedule {
     pub fn parse(alloc: Global, kind: ScheduleKind, text: &Text) -> Result<Schedule, ParseFault>
         ensures { Gives result (parsed kind text.now) }
     {
-        let _ = alloc;
         let bytes = text.as_bytes();
         if bytes.len() > LONGEST_TEXT {
             return Err(ParseFault::Bad(ScheduleFault {
@@ -55,7 +55,12 @@ impl Schedule {
                 }),
                 None => Err(ParseFault::Bad(ScheduleFault { field: 0, place: 1 })),
             },
-            ScheduleKind::Cron => Err(ParseFault::Bad(ScheduleFault { field: 0, place: 1 })),
+            ScheduleKind::Cron => match read_cron(alloc, bytes) {
+                Ok(items) => Ok(Schedule {
+                    plan: Plan::Cron(Cron::of(items)),
+                }),
+                Err(fault) => Err(fault),
+            },
         }
     }
 

@@ -25,8 +25,8 @@ late_year d n h le =
     elim (cases_lt 2099 d.year) [
       | inl lt ↦ lt
       | inr early ↦
-        let own : IsYear (pos d.year) = (omega (arith, signed_arith, h.year), omega (arith, signed_arith)) in
-        absurd (omega (arith, signed_arith, h.number, days_from_civil-day_count (pos d.year) d.month d.day, day_count-2100, day_count-lt_year (pos d.year) d.month d.day (pos 2100) 1 1 (own, (h.month_least, h.month_most), (h.day_least, h.day_most)) (omega arith) (omega (arith, signed_arith))))
+          let own : IsYear (pos d.year) = (omega (arith, signed_arith, h.year), omega (arith, signed_arith)) in
+          absurd (omega (arith, signed_arith, h.number, days_from_civil-day_count (pos d.year) d.month d.day, day_count-2100, day_count-lt_year (pos d.year) d.month d.day (pos 2100) 1 1 (own, (h.month_least, h.month_most), (h.day_least, h.day_most)) (omega arith) (omega (arith, signed_arith))))
     ]
 
 none_first : (a b c d : Bool) → a ≡ false → (a && b && c && d) ≡ false
@@ -41,7 +41,7 @@ is_day_due-late items n le =
 high_false : (a b : Bool) → a ≡ false → (a && b) ≡ false
 high_false a b e = rw e
 
-is_local_due-late : (items : List FieldItem) (v : ℕ) → 4102444800 ≤ v → is_local_due items v ≡ false
+pub is_local_due-late : (items : List FieldItem) (v : ℕ) → 4102444800 ≤ v → is_local_due items v ≡ false
 is_local_due-late items v le = high_false (is_day_due items (v / 86400)) (is_second_due items (v % 86400)) (is_day_due-late items (v / 86400) (omega arith))
 
 none_beyond : (items : List FieldItem) (from high : ℕ) → NonePasses (is_local_due items) from 4102444800 → NonePasses (is_local_due items) from high
@@ -52,14 +52,14 @@ none_beyond items from high none v low below =
     ]
 
 -- a second of the clock is from 1970 on or before it
-cases_second : (z : ℤ) → ((v : ℕ) × (z ≡ pos v)) ⊎ (z <ℤ pos 0)
+pub cases_second : (z : ℤ) → ((v : ℕ) × (z ≡ pos v)) ⊎ (z <ℤ pos 0)
 cases_second (pos v) = inl (v, refl)
 cases_second (negsuc v) = inr (omega (arith, signed_arith))
 
-clock_at : (items : List FieldItem) (z : ℤ) (v : ℕ) → z ≡ pos v → is_clock_due items z ≡ is_local_due items v
+pub clock_at : (items : List FieldItem) (z : ℤ) (v : ℕ) → z ≡ pos v → is_clock_due items z ≡ is_local_due items v
 clock_at items z v e = rw e
 
-clock_before : (items : List FieldItem) (z : ℤ) → z <ℤ pos 0 → is_clock_due items z ≡ false
+pub clock_before : (items : List FieldItem) (z : ℤ) → z <ℤ pos 0 → is_clock_due items z ≡ false
 clock_before items (pos v) lt = absurd (omega (arith, signed_arith))
 clock_before items (negsuc v) lt = refl
 
@@ -73,13 +73,13 @@ not_due items offset t from high w start none later before =
     elim (cases_test (nat_eq (w % 1000) 0)) [
       | inr part ↦ high_false (nat_eq (w % 1000) 0) (is_clock_due items (pos (w / 1000) +ℤ offset)) part
       | inl whole ↦
-        let multiple : w % 1000 ≡ 0 = grind (arith, nat_tests) in
-        let utc : t / 1000 + 1 ≤ w / 1000 = omega arith in
-        low_false (nat_eq (w % 1000) 0) (is_clock_due items (pos (w / 1000) +ℤ offset))
-        (elim (cases_second (pos (w / 1000) +ℤ offset)) [
-          | inr gone ↦ clock_before items (pos (w / 1000) +ℤ offset) gone
-          | inl at ↦ clock_at items (pos (w / 1000) +ℤ offset) at.0 at.1 ∙ none at.0 (start.least at.0 (omega (arith, signed_arith, at.1))) (before at.0 at.1)
-        ])
+          let multiple : w % 1000 ≡ 0 = grind (arith, nat_tests) in
+          let utc : t / 1000 + 1 ≤ w / 1000 = omega arith in
+          low_false (nat_eq (w % 1000) 0) (is_clock_due items (pos (w / 1000) +ℤ offset))
+          (elim (cases_second (pos (w / 1000) +ℤ offset)) [
+            | inr gone ↦ clock_before items (pos (w / 1000) +ℤ offset) gone
+            | inl at ↦ clock_at items (pos (w / 1000) +ℤ offset) at.0 at.1 ∙ none at.0 (start.least at.0 (omega (arith, signed_arith, at.1))) (before at.0 at.1)
+          ])
     ]
 
 -- no second of the clock passes, so no moment is due
@@ -97,10 +97,10 @@ start_late items offset t late =
     elim (cases_second (pos (t / 1000 + 1) +ℤ offset)) [
       | inr gone ↦ absurd (omega (arith, signed_arith))
       | inl at ↦
-        none_due items offset t at.0 (record {
-          later = omega (arith, signed_arith, at.1);
-          least = λ v le. omega (arith, signed_arith, at.1)
-        }) (λ v low below. absurd (omega (arith, signed_arith, at.1)))
+          none_due items offset t at.0 (record {
+            later = omega (arith, signed_arith, at.1);
+            least = λ v le. omega (arith, signed_arith, at.1);
+          }) (λ v low below. absurd (omega (arith, signed_arith, at.1)))
     ]
 
 both_true : (a b : Bool) → a ≡ true → b ≡ true → (a && b) ≡ true
@@ -117,11 +117,11 @@ pub first_due : (items : List FieldItem) (offset : ℤ) (t from second : ℕ) (r
 first_due items offset t from second None start h moment =
     first_in-is (is_due items offset) (t + 1) (LAST_MOMENT + 1) None
     (λ w later below.
-      let first : from ≤ second = h.least in
-      let utc = second + down offset - up offset in
-      let same : IsUtc offset second utc = omega (arith, signed_arith, start.later) in
-      let above = moment utc same in
-      not_due items offset t from second w start h.none_before later (λ x e. omega (arith, signed_arith)))
+    let first : from ≤ second = h.least in
+    let utc = second + down offset - up offset in
+    let same : IsUtc offset second utc = omega (arith, signed_arith, start.later) in
+    let above = moment utc same in
+    not_due items offset t from second w start h.none_before later (λ x e. omega (arith, signed_arith)))
 first_due items offset t from second (Some r) start h moment =
     first_in-is (is_due items offset) (t + 1) (LAST_MOMENT + 1) (Some r)
     (let first : from ≤ second = h.least in
@@ -132,5 +132,5 @@ first_due items offset t from second (Some r) start h moment =
       least = omega (arith, signed_arith, start.later);
       below = omega (arith, moment.3);
       passes = rw at (due_at items offset second utc same h.passes);
-      none_before = λ w later below. not_due items offset t from second w start h.none_before later (λ x e. omega (arith, signed_arith))
+      none_before = λ w later below. not_due items offset t from second w start h.none_before later (λ x e. omega (arith, signed_arith));
     })

@@ -27,7 +27,7 @@ within_month y m d n h lt = record {
   month_most = h.month_most;
   day_least = omega arith;
   day_most = omega arith;
-  number = omega (arith, signed_arith, h.number, days_from_civil-day (pos y) m d (d + 1) h.day_least (omega arith))
+  number = omega (arith, signed_arith, h.number, days_from_civil-day (pos y) m d (d + 1) h.day_least (omega arith));
 }
 
 month_end : (y m d n : ℕ) → IsDayNumber (record { year = y; month = m; day = d }) n → days_in_month (pos y) m ≤ d → m < 12 → IsDayNumber (record { year = y; month = m + 1; day = 1 }) (suc n)
@@ -41,7 +41,7 @@ month_end y m d n h le lt =
       month_most = omega arith;
       day_least = omega arith;
       day_most = omega arith;
-      number = omega (arith, signed_arith, h.number, days_from_civil-next_month (pos y) m d h.month_least last)
+      number = omega (arith, signed_arith, h.number, days_from_civil-next_month (pos y) m d h.month_least last);
     }
 
 year_end : (y m d n : ℕ) → IsDayNumber (record { year = y; month = m; day = d }) n → days_in_month (pos y) m ≤ d → 12 ≤ m → IsDayNumber (record { year = y + 1; month = 1; day = 1 }) (suc n)
@@ -59,7 +59,7 @@ year_end y m d n h le last_month =
       month_most = omega arith;
       day_least = omega arith;
       day_most = omega arith;
-      number = omega (arith, signed_arith, rw (m_is, d_is) at number, days_from_civil-next_year (pos y) (pos (y + 1)) (omega (arith, signed_arith)) next)
+      number = omega (arith, signed_arith, rw (m_is, d_is) at number, days_from_civil-next_year (pos y) (pos (y + 1)) (omega (arith, signed_arith)) next);
     }
 
 next_number : (y m d n : ℕ) → IsDayNumber (record { year = y; month = m; day = d }) n → IsDayNumber (next_day (record { year = y; month = m; day = d })) (suc n)
@@ -67,11 +67,11 @@ next_number y m d n h =
     elim (cases_lt d (days_in_month (pos y) m)) [
       | inl lt ↦ let test : nat_lt d (days_in_month (pos y) m) ≡ true = grind (arith, nat_tests) in rw test (within_month y m d n h lt)
       | inr le ↦
-        let test : nat_lt d (days_in_month (pos y) m) ≡ false = grind (arith, nat_tests) in
-        elim (cases_lt m 12) [
-          | inl early ↦ let month : nat_lt m 12 ≡ true = grind (arith, nat_tests) in rw (test, month) (month_end y m d n h le early)
-          | inr late ↦ let month : nat_lt m 12 ≡ false = grind (arith, nat_tests) in rw (test, month) (year_end y m d n h le late)
-        ]
+          let test : nat_lt d (days_in_month (pos y) m) ≡ false = grind (arith, nat_tests) in
+          elim (cases_lt m 12) [
+            | inl early ↦ let month : nat_lt m 12 ≡ true = grind (arith, nat_tests) in rw (test, month) (month_end y m d n h le early)
+            | inr late ↦ let month : nat_lt m 12 ≡ false = grind (arith, nat_tests) in rw (test, month) (year_end y m d n h le late)
+          ]
     ]
 
 first_number : IsDayNumber (record { year = 1970; month = 1; day = 1 }) 0
@@ -81,7 +81,7 @@ first_number = record {
   month_most = omega arith;
   day_least = omega arith;
   day_most = omega (arith, days_in_month_bounds (pos 1970) 1);
-  number = omega (arith, signed_arith, days_from_civil-day_count (pos 1970) 1 1, day_count-epoch)
+  number = omega (arith, signed_arith, days_from_civil-day_count (pos 1970) 1 1, day_count-epoch);
 }
 
 -- the day that many days after 1 January 1970 has that day number
@@ -110,8 +110,8 @@ year_same date d n h e =
     (λ lt. absurd (omega (arith, counts, day_count-lt_year date.year date.month date.day (pos d.year) d.month d.day (civil date) h.day_least lt)))
     (λ ge. by_lt_z (pos d.year) date.year
     (λ gt.
-      let own : IsYear (pos d.year) = (omega (arith, signed_arith, h.year), omega (arith, signed_arith)) in
-      absurd (omega (arith, counts, day_count-lt_year (pos d.year) d.month d.day date.year date.month date.day (own, (h.month_least, h.month_most), (h.day_least, h.day_most)) date.day_in.0 gt)))
+    let own : IsYear (pos d.year) = (omega (arith, signed_arith, h.year), omega (arith, signed_arith)) in
+    absurd (omega (arith, counts, day_count-lt_year (pos d.year) d.month d.day date.year date.month date.day (own, (h.month_least, h.month_most), (h.day_least, h.day_most)) date.day_in.0 gt)))
     (λ le. omega (arith, signed_arith)))
 
 -- the library's date of a day of the calendar
@@ -129,5 +129,5 @@ IsDateOf-number date n e =
     record {
       year = year;
       month = same.1 ∙ made.1.month;
-      day = same.2 ∙ made.1.day
+      day = same.2 ∙ made.1.day;
     }

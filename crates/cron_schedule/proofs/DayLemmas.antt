@@ -21,11 +21,11 @@ weekday_on-shift y m d n low high first =
     let there = weekday_on_bound y m n in
     elim (cases_lt n d) [
       | inl lt ↦
-        let e : weekday_on y m d ≡ (weekday_on y m n + (d - n)) % 7 = weekday_number-day y m n d first (omega arith) in
-        omega arith
+          let e : weekday_on y m d ≡ (weekday_on y m n + (d - n)) % 7 = weekday_number-day y m n d first (omega arith) in
+          omega arith
       | inr le ↦
-        let e : weekday_on y m n ≡ (weekday_on y m d + (n - d)) % 7 = weekday_number-day y m d n low le in
-        omega arith
+          let e : weekday_on y m n ≡ (weekday_on y m d + (n - d)) % 7 = weekday_number-day y m d n low le in
+          omega arith
     ]
 
 workday_is : (y : ℤ) (m d w : ℕ) → weekday_on y m d ≡ w → is_workday y m d ≡ nat_lt w 5
@@ -40,17 +40,17 @@ last_none y m d low le work none =
     elim (cases_lt d (days_in_month y m)) [
       | inr last ↦ let e : days_in_month y m - d ≡ 0 = omega arith in rw e
       | inl more ↦
-        let next = later_weekday y m d (d + 1) low (omega arith) in
-        let rest : nat_lt (weekday_on y m (d + 1)) 5 ≡ false = none (d + 1) (omega arith) (omega arith) in
-        let friday : weekday_on y m d ≡ 4 = grind (arith, nat_tests) in
-        elim (cases_lt 2 (days_in_month y m - d)) [
-          | inr few ↦ grind (arith, nat_tests)
-          | inl many ↦
-            let monday = later_weekday y m d (d + 3) low (omega arith) in
-            let monday_is : weekday_on y m (d + 3) ≡ 0 = omega arith in
-            let idle : nat_lt (weekday_on y m (d + 3)) 5 ≡ false = none (d + 3) (omega arith) (omega arith) in
-            absurd (grind (arith, nat_tests))
-        ]
+          let next = later_weekday y m d (d + 1) low (omega arith) in
+          let rest : nat_lt (weekday_on y m (d + 1)) 5 ≡ false = none (d + 1) (omega arith) (omega arith) in
+          let friday : weekday_on y m d ≡ 4 = grind (arith, nat_tests) in
+          elim (cases_lt 2 (days_in_month y m - d)) [
+            | inr few ↦ grind (arith, nat_tests)
+            | inl many ↦
+                let monday = later_weekday y m d (d + 3) low (omega arith) in
+                let monday_is : weekday_on y m (d + 3) ≡ 0 = omega arith in
+                let idle : nat_lt (weekday_on y m (d + 3)) 5 ≡ false = none (d + 3) (omega arith) (omega arith) in
+                absurd (grind (arith, nat_tests))
+          ]
     ]
 
 last_some : (y : ℤ) (m d x : ℕ) → 1 ≤ d → d ≤ days_in_month y m → weekday_on y m d < 5 → IsFirstAt (is_workday y m) (d + 1) (days_in_month y m + 1) x → (nat_eq (days_in_month y m - d) 0 || (nat_eq (weekday_on y m d) 4 && nat_le (days_in_month y m - d) 2)) ≡ false
@@ -63,8 +63,8 @@ last_some y m d x low le work h =
     elim (cases_lt 2 (days_in_month y m - d)) [
       | inl many ↦ grind (arith, nat_tests)
       | inr few ↦
-        let apart : (weekday_on y m d ≡ 4) → ⊥ = λ e. omega arith in
-        grind (arith, nat_tests)
+          let apart : (weekday_on y m d ≡ 4) → ⊥ = λ e. omega arith in
+          grind (arith, nat_tests)
     ]
 
 last_cases : (y : ℤ) (m d : ℕ) (r : Option ℕ) → 1 ≤ d → d ≤ days_in_month y m → weekday_on y m d < 5 → IsFirst (is_workday y m) (d + 1) (days_in_month y m + 1) r → is_none r ≡ (nat_eq (days_in_month y m - d) 0 || (nat_eq (weekday_on y m d) 4 && nat_le (days_in_month y m - d) 2))

@@ -23,7 +23,7 @@ first_one test v n (Some r) here h = record {
   least = omega (arith, h.least);
   below = omega (arith, h.below);
   passes = h.passes;
-  none_before = one_more test v r here h.none_before
+  none_before = one_more test v r here h.none_before;
 }
 
 first_now : (test : ℕ → Bool) (v n : ℕ) → test v ≡ true → IsFirstAt test v (v + suc n) v
@@ -31,7 +31,7 @@ first_now test v n here = record {
   least = omega arith;
   below = omega arith;
   passes = here;
-  none_before = λ w low below. absurd (omega arith)
+  none_before = λ w low below. absurd (omega arith);
 }
 
 pub IsFirst-first_from : (test : ℕ → Bool) (v n : ℕ) → IsFirst test v (v + n) (first_from test v n)
@@ -57,14 +57,14 @@ IsFirst-same test low high (Some x) None h k =
 IsFirst-same test low high (Some x) (Some y) h k =
     elim (cases_lt x y) [
       | inl lt ↦
-        let no_pass : test x ≡ false = k.none_before x h.least lt in
-        let yes : test x ≡ true = h.passes in
-        cc
+          let no_pass : test x ≡ false = k.none_before x h.least lt in
+          let yes : test x ≡ true = h.passes in
+          cc
       | inr le ↦ elim (cases_lt y x) [
         | inl gt ↦
-          let no_pass : test y ≡ false = h.none_before y k.least gt in
-          let yes : test y ≡ true = k.passes in
-          cc
+            let no_pass : test y ≡ false = h.none_before y k.least gt in
+            let yes : test y ≡ true = k.passes in
+            cc
         | inr ge ↦ let e : x ≡ y = omega arith in ap Some e
       ]
     ]
@@ -80,8 +80,8 @@ pub IsFirst-first_in : (test : ℕ → Bool) (low high : ℕ) → IsFirst test l
 IsFirst-first_in test low high =
     elim (cases_lt low high) [
       | inl lt ↦
-        let e : low + (high - low) ≡ high = omega arith in
-        rw e at (IsFirst-first_from test low (high - low))
+          let e : low + (high - low) ≡ high = omega arith in
+          rw e at (IsFirst-first_from test low (high - low))
       | inr le ↦ first_in_empty test low high le
     ]
 
@@ -153,7 +153,7 @@ first_here p q base size from x pos below here h =
       least = omega (arith, h.least);
       below = omega (arith, h.below, mul_mono (from / base + 1) size base (omega arith));
       passes = digits_pass p q base (from / base) x h.below here h.passes;
-      none_before = λ v low before. none_low_before p q base (from / base) (from % base) x v pos (omega (arith, h.below)) h.none_before (omega arith) before
+      none_before = λ v low before. none_low_before p q base (from / base) (from % base) x v pos (omega (arith, h.below)) h.none_before (omega arith) before;
     }
 
 -- no number with the high digit that the numbers begin with passes
@@ -184,7 +184,7 @@ first_later p q base size from a x pos none h k =
           | inr same ↦ none v low (omega (arith, high_mono base from v pos low))
         ]
         | inr late ↦ none_low_before p q base a 0 x v pos (omega (arith, k.below)) k.none_before (omega arith) before
-      ]
+      ];
     }
 
 -- and there is none where no later high digit passes

@@ -5,4 +5,5 @@ pub mod DayLemmas
 pub mod CivilLemmas
 pub mod DueLemmas
 pub mod AfterLemmas
+pub mod RelationLemmas
 pub mod LawLemmas

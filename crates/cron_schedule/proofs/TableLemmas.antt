@@ -41,19 +41,19 @@ first_apart test v size x h no_pass =
     elim (cases_lt v x) [
       | inl lt ↦ lt
       | inr le ↦
-        let least : v ≤ x = h.least in
-        let e : v ≡ x = omega arith in
-        let pass : test x ≡ true = h.passes in
-        let none : test x ≡ false = sym (ap test e) ∙ no_pass in
-        cc
+          let least : v ≤ x = h.least in
+          let e : v ≡ x = omega arith in
+          let pass : test x ≡ true = h.passes in
+          let none : test x ≡ false = sym (ap test e) ∙ no_pass in
+          cc
     ]
 
 first_now : (test : ℕ → Bool) (v size x : ℕ) → IsFirstAt test v size x → test v ≡ true → x ≡ v
 first_now test v size x h pass =
     elim (cases_lt v x) [
       | inl lt ↦
-        let none : test v ≡ false = h.none_before v (omega arith) lt in
-        cc
+          let none : test v ≡ false = h.none_before v (omega arith) lt in
+          cc
       | inr le ↦ let least : v ≤ x = h.least in omega arith
     ]
 
@@ -67,8 +67,8 @@ first_same test v size n (Some x) h e lt =
     elim (cases_test (test v)) [
       | inl pass ↦ same_test n v (same ∙ first_now test v size x h pass) ∙ sym pass
       | inr none ↦
-        let later : v < n = omega (arith, first_apart test v size x h none) in
-        apart_test n v later ∙ sym none
+          let later : v < n = omega (arith, first_apart test v size x h none) in
+          apart_test n v later ∙ sym none
     ]
 
 pub table_some : (test : ℕ → Bool) (size : ℕ) (table : List ℕ) (v : ℕ) → IsFirsts test size table → v ≤ size → slice_index table v < size → IsFirstAt test v size (slice_index table v)
@@ -87,8 +87,8 @@ table_has test size table v h lt =
 pub firsts_start : (test : ℕ → Bool) (size : ℕ) (table : List ℕ) → slice_index table size ≡ size → IsFirstsFrom test size size table
 firsts_start test size table h = record {
   next = λ v low high.
-    let e : v ≡ size = omega arith in
-    rw (e, first_in-end test size) h
+      let e : v ≡ size = omega arith in
+      rw (e, first_in-end test size) h;
 }
 
 step_value : (test : ℕ → Bool) (size v new next : ℕ) → v < size → next ≡ unwrap_or (first_in test (v + 1) size) size → new ≡ (if test v then v else next) → new ≡ unwrap_or (first_in test v size) size
@@ -102,17 +102,17 @@ step_value test size v new next lt h e =
 pub firsts_more : (test : ℕ → Bool) (size at new : ℕ) (table : List ℕ) → 0 < at → at ≤ size → size < length table → IsFirstsFrom test at size table → new ≡ (if test (at - 1) then at - 1 else slice_index table at) → IsFirstsFrom test (at - 1) size (set table (at - 1) new)
 firsts_more test size at new table pos le room h e = record {
   next = λ v low high.
-    elim (cases_lt (at - 1) v) [
-      | inl lt ↦
-        let other : v ≢ at - 1 = omega arith in
-        rw get_or-set_other (h.next v (omega arith) high)
-      | inr back ↦
-        let same : v ≡ at - 1 = omega arith in
-        let within : at - 1 < length table = omega arith in
-        let next_is : at - 1 + 1 ≡ at = omega arith in
-        let later : slice_index table at ≡ unwrap_or (first_in test (at - 1 + 1) size) size = rw next_is (h.next at (omega arith) le) in
-        rw same (rw get_or-set_same (step_value test size (at - 1) new (slice_index table at) (omega arith) later e))
-    ]
+      elim (cases_lt (at - 1) v) [
+        | inl lt ↦
+            let other : v ≢ at - 1 = omega arith in
+            rw get_or-set_other (h.next v (omega arith) high)
+        | inr back ↦
+            let same : v ≡ at - 1 = omega arith in
+            let within : at - 1 < length table = omega arith in
+            let next_is : at - 1 + 1 ≡ at = omega arith in
+            let later : slice_index table at ≡ unwrap_or (first_in test (at - 1 + 1) size) size = rw next_is (h.next at (omega arith) le) in
+            rw same (rw get_or-set_same (step_value test size (at - 1) new (slice_index table at) (omega arith) later e))
+      ];
 }
 
 pub firsts_all : (test : ℕ → Bool) (size : ℕ) (table : List ℕ) → IsFirstsFrom test 0 size table → IsFirsts test size table
@@ -126,5 +126,5 @@ first_from-same test other v (suc n) same = rw (same v, first_from-same test oth
 -- a table of a set is one of each test that says the same
 pub IsFirsts-same : (test other : ℕ → Bool) (size : ℕ) (table : List ℕ) → ((w : ℕ) → other w ≡ test w) → IsFirsts test size table → IsFirsts other size table
 IsFirsts-same test other size table same h = record {
-  next = λ v le. rw (first_from-same test other v (size - v) same) (h.next v le)
+  next = λ v le. rw (first_from-same test other v (size - v) same) (h.next v le);
 }

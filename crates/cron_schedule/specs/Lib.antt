@@ -14,3 +14,4 @@ pub mod Reading
 pub mod CronText
 pub mod Parse
 pub mod After
+pub mod PlanDue

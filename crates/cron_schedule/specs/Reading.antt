@@ -125,10 +125,10 @@ abbrev pub day_rule : List ℕ → Option Item
 day_rule text =
     if length text == 0 then None
     else if is_letter_at text 0 76 then
-      (if length text == 1 then Some (Last 0)
-      else if (length text == 2) && is_letter_at text 1 87 then Some LastWorkday
-      else if slice_index text 1 == 45 then days_back (within 1 30 (number_of 4 (drop 2 text)))
-      else None)
+    (if length text == 1 then Some (Last 0)
+    else if (length text == 2) && is_letter_at text 1 87 then Some LastWorkday
+    else if slice_index text 1 == 45 then days_back (within 1 30 (number_of 4 (drop 2 text)))
+    else None)
     else if is_letter_at text (length text - 1) 87 then near_day (within 1 31 (number_of 4 (take (length text - 1) text)))
     else None
 
@@ -150,7 +150,7 @@ abbrev pub weekday_rule : List ℕ → Option Item
 weekday_rule text =
     if length text == 0 then None
     else if is_letter_at text (length text - 1) 76 then
-      (if length text == 1 then Some (Last 0) else last_such (value_of 6 (take (length text - 1) text)))
+    (if length text == 1 then Some (Last 0) else last_such (value_of 6 (take (length text - 1) text)))
     else nth_at text (position (λ byte. byte == 35) text)
 
 -- the rule on days that a text gives in a field

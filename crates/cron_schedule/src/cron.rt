@@ -110,7 +110,8 @@ impl Cron {
         ensures { result ≡ (day_in_field self.now date.year date.month date.day && weekday_in_field self.now date.year date.month date.day) }
     {
         if self.plain {
-            return has(&self.days, 32, date.day as u32) && has(&self.weekdays, 8, (weekday + 1) % 7 + 1);
+            return has(&self.days, 32, date.day as u32)
+                && has(&self.weekdays, 8, (weekday + 1) % 7 + 1);
         }
         let day = Day {
             date,
@@ -133,6 +134,24 @@ impl Cron {
             return false;
         }
         self.is_date_in(date, (day + 3) % 7)
+    }
+
+    fn is_time_due(&self, second: u32) -> bool
+        requires { second < 86400 }
+        ensures { result ≡ is_second_due self.now second }
+    {
+        let rest = second % 3600;
+        has(&self.hours, 24, second / 3600)
+            && has(&self.minutes, 60, rest / 60)
+            && has(&self.seconds, 60, rest % 60)
+    }
+
+    /// Whether a second of the civil clock, since 1970-01-01T00:00:00, is in the seven sets.
+    pub fn is_due_in<L: Ledger>(&self, second: u32, steps: &mut Steps<L>) -> bool
+        requires { second < SECONDS }
+        ensures { result ≡ is_local_due self.now second }
+    {
+        self.is_due_on(second / 86_400, steps) && self.is_time_due(second % 86_400)
     }
 
     fn first_in_hour(&self, from: u32) -> Option<u32>

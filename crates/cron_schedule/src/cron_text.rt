@@ -151,11 +151,7 @@ fn check_free(pieces: &[Piece], items: Vec<FieldItem>) -> Result<Seq<FieldItem>,
     }
 }
 
-fn check_items(
-    alloc: Global,
-    text: &[u8],
-    pieces: &[Piece],
-) -> Result<Seq<FieldItem>, ParseFault>
+fn check_items(alloc: Global, text: &[u8], pieces: &[Piece]) -> Result<Seq<FieldItem>, ParseFault>
     ensures { GivesItems result (items_checked text.now pieces.now (find (λ p. is_none (item_at_piece text.now p)) pieces.now)) }
 {
     match first_bad(text, pieces) {
@@ -167,11 +163,7 @@ fn check_items(
     }
 }
 
-fn check_count(
-    alloc: Global,
-    text: &[u8],
-    pieces: &[Piece],
-) -> Result<Seq<FieldItem>, ParseFault>
+fn check_count(alloc: Global, text: &[u8], pieces: &[Piece]) -> Result<Seq<FieldItem>, ParseFault>
     requires { length text.now ≤ 128 }
     ensures { GivesItems result (count_checked text.now pieces.now) }
 {

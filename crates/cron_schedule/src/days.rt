@@ -91,12 +91,16 @@ fn is_weekday_in(item: &Item, day: &Day) -> bool
 pub fn is_day_in_field(items: &[FieldItem], day: &Day) -> bool
     ensures { result ≡ day_in_field items.now day.now.date.year day.now.date.month day.now.date.day }
 {
-    items.iter().any(|i| i.field == 4 && is_day_in(&i.item, day))
+    items
+        .iter()
+        .any(|i| i.field == 4 && is_day_in(&i.item, day))
 }
 
 /// Whether the day is in the set of the days of week.
 pub fn is_weekday_in_field(items: &[FieldItem], day: &Day) -> bool
     ensures { result ≡ weekday_in_field items.now day.now.date.year day.now.date.month day.now.date.day }
 {
-    items.iter().any(|i| i.field == 6 && is_weekday_in(&i.item, day))
+    items
+        .iter()
+        .any(|i| i.field == 6 && is_weekday_in(&i.item, day))
 }

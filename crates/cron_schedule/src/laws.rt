@@ -1,7 +1,20 @@
 //! Laws of due times, each the contract of a function without parameters and with an empty body.
 ghost use Rattle.cron_schedule.specs.After.{TimesRise};
+ghost use Rattle.cron_schedule.specs.PlanDue.{TimeIsLeast, LeastIsTime};
 
 /// A time after a moment is later than it, and not above the last moment.
 pub fn law_after_rises()
     ensures { TimesRise }
 {}
+
+/// The time after a moment, under a cron text, is the least moment after it that is due.
+pub fn law_time_is_least()
+    ensures { TimeIsLeast }
+{
+}
+
+/// What is the least moment after a moment that is due is the time after it.
+pub fn law_least_is_time()
+    ensures { LeastIsTime }
+{
+}

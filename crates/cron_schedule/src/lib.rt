@@ -2,6 +2,7 @@
 //! into a `Schedule`, which then tells the due times after a moment.
 #![tactic(auto)]
 
+mod clock;
 pub mod cron;
 mod cron_text;
 mod days;
@@ -19,3 +20,6 @@ mod sets;
 pub use fault::ParseFault;
 pub use plan::Plan;
 pub use schedule::Schedule;
+
+#[cfg(test)]
+mod tests;

@@ -125,7 +125,11 @@ fn read_value(field: u8, text: &[u8]) -> Option<u16>
 fn read_step(field: u8, text: &[u8]) -> Option<u16>
     ensures { result ≡ step_of field text.now }
 {
-    let most = if field == 7 { 129 } else { greatest_value(field) };
+    let most = if field == 7 {
+        129
+    } else {
+        greatest_value(field)
+    };
     number_within(1, most, text)
 }
 
@@ -136,7 +140,11 @@ fn read_lone(field: u8, stepped: bool, text: &[u8]) -> Option<Run>
         None => None,
         Some(from) => Some(Run {
             from,
-            to: if stepped { greatest_value(field) as u16 } else { from },
+            to: if stepped {
+                greatest_value(field) as u16
+            } else {
+                from
+            },
             step: 1,
         }),
     }

@@ -1,13 +1,11 @@
 //! A schedule: read from its text once, it tells the due times after a moment.
-ghost use Rattle.std.specs.Prelude.{◌≡◌, ◌+◌, ◌/◌, ◌<◌, ◌≤◌, IfOk, IfSome, IfNone, pos, ◌+ℤ◌, ◌≤ℤ◌};
-ghost use Rattle.job_values.specs.declared.numbers.TheConstants.{LAST_MOMENT};
-ghost use Rattle.cron_schedule.specs.First.{first_in};
-ghost use Rattle.cron_schedule.specs.Due.{is_due};
-ghost use Rattle.cron_schedule.specs.Civil.{IsStart, IsMomentOf};
+ghost use Rattle.std.specs.Prelude.{◌≡◌, ◌+◌, ◌<◌, ◌≤◌, ◌↔◌, IsTrue, IfOk};
+ghost use Rattle.cron_schedule.specs.PlanDue.{IsDueAt, IsDayDueAt};
 ghost use Rattle.cron_schedule.specs.Parse.{parsed, Gives};
 ghost use Rattle.cron_schedule.specs.After.{time_after, after_seconds};
 
-use super::cron::{Cron, SECONDS};
+use super::clock::{after_cron, is_day_in, is_due_at, no_day};
+use super::cron::Cron;
 use super::cron_text::read_cron;
 use super::fault::ParseFault;
 use super::plan::Plan;
@@ -89,6 +87,27 @@ impl Schedule {
         }
     }
 
+    /// Whether the moment is due: under a cron text, whether it is a whole second whose civil time
+    /// is in the seven sets. At a fixed rate no moment is due by itself.
+    pub fn matches(&self, moment: Moment, offset: Offset) -> bool
+        ensures { IsTrue result ↔ IsDueAt self.now offset moment }
+    {
+        uncounted_matches::<Brand>(self, moment, offset, Blank::new(1))
+    }
+
+    /// Whether the civil day that many days after 1970-01-01 is in the four sets of days of a cron
+    /// text: one step. Nothing else reads these sets.
+    pub fn test_day<L: Ledger>(&self, day: i32, steps: &mut Steps<L>) -> bool
+        ensures due { IsTrue result ↔ IsDayDueAt self.now day }
+        ensures cost { steps.new ≡ steps.old + 1 }
+    {
+        match &self.plan {
+            Plan::Never => no_day(steps),
+            Plan::Every(_) => no_day(steps),
+            Plan::Cron(cron) => is_day_in(cron, day, steps),
+        }
+    }
+
     /// Another schedule that says the same.
     pub fn copy(&self, alloc: Global) -> Result<Schedule, NoMemory>
         ensures { IfOk result (λ s. s ≡ self.now) }
@@ -123,48 +142,22 @@ fn uncounted_after<L: Ledger>(
     schedule.after_counted(t, offset, &mut steps)
 }
 
-/// The first second from 1970 on, of a clock so far ahead of UTC, that is later than `t`; None
-/// after 2099.
-fn start_second(t: Moment, offset: Offset) -> Option<u32>
-    ensures some { IfSome result (λ from. IsStart offset t from × (from < SECONDS)) }
-    ensures none { IfNone result (pos SECONDS ≤ℤ (pos (t / 1000 + 1) +ℤ offset)) }
-{
-    let second = (t.get() / 1000 + 1) as i64 + offset.get() as i64;
-    if second >= SECONDS as i64 {
-        None
-    } else if second < 0 {
-        Some(0)
-    } else {
-        Some(second as u32)
-    }
-}
-
-/// The moment of a second of a clock so far ahead of UTC; None above the last moment.
-fn moment_of(second: u32, offset: Offset) -> Option<Moment>
-    ensures { IsMomentOf offset second result }
-{
-    let utc = second as i64 - offset.get() as i64;
-    if utc < 0 {
-        return None;
-    }
-    Moment::new(1000 * utc as u64)
-}
-
-fn after_cron<L: Ledger>(
-    cron: &Cron,
-    t: Moment,
+fn uncounted_matches<L: Ledger>(
+    schedule: &Schedule,
+    moment: Moment,
     offset: Offset,
-    steps: &mut Steps<L>,
-) -> Option<Moment>
-    ensures time { result ≡ first_in (is_due cron.now offset) (t + 1) (LAST_MOMENT + 1) }
-    ensures cost { steps.new ≤ steps.old + 47482 }
+    blank: Blank,
+) -> bool
+    requires name { blank.name ≡ L.name }
+    requires parts { blank.parts ≡ L.parts }
+    requires some { 0 < L.parts }
+    ensures { IsTrue result ↔ IsDueAt schedule.now offset moment }
 {
-    match start_second(t, offset) {
-        None => None,
-        Some(from) => match cron.first_second(from, steps) {
-            None => None,
-            Some(second) => moment_of(second, offset),
-        },
+    let mut steps = Steps::<L>::none(blank);
+    match &schedule.plan {
+        Plan::Never => false,
+        Plan::Every(_) => false,
+        Plan::Cron(cron) => is_due_at(cron, moment, offset, &mut steps),
     }
 }
 
@@ -176,48 +169,5 @@ fn after_rate(t: Moment, seconds: u32) -> Option<Moment>
         None
     } else {
         Moment::new(t.get() + 1000 * seconds as u64)
-    }
-}
-
-#[cfg(test)]
-mod tests {
-    use super::*;
-
-    fn read(alloc: Global, kind: ScheduleKind, text: &str) -> Result<Schedule, ParseFault> {
-        Schedule::parse(alloc, kind, &Text::copied(alloc, text)?)
-    }
-
-    #[test]
-    fn fixed_rates_and_none(rt: HostRuntime) -> Result<(), ParseFault> {
-        let offset = Offset::new(0).expect(&rt, "an offset");
-        let start = Moment::new(100_000).expect(&rt, "a moment");
-        let last = Moment::new(4_102_444_799_000).expect(&rt, "a moment");
-        let rate = read(rt.alloc(), ScheduleKind::FixRate, "0000000010")?.copy(rt.alloc())?;
-        assert!(rt; matches!(rate.after(start, offset), Some(t) if t.get() == 110_000));
-        assert!(rt; rate.after(last, offset).is_none());
-        let never = read(rt.alloc(), ScheduleKind::Never, "any text")?;
-        assert!(rt; never.after(start, offset).is_none());
-        Ok(())
-    }
-
-    #[test]
-    fn bad_rates(rt: HostRuntime) -> Result<(), ParseFault> {
-        for text in [
-            "0",
-            "",
-            "2147483648",
-            "00000000001",
-            "+1",
-            "1 ",
-            "4294967297",
-        ] {
-            let got = read(rt.alloc(), ScheduleKind::FixRate, text);
-            let fault = ScheduleFault { field: 0, place: 1 };
-            assert!(rt;
-                matches!(got, Err(ParseFault::Bad(f)) if f == fault),
-                "at {text}"
-            );
-        }
-        Ok(())
     }
 }

@@ -78,7 +78,9 @@ fn is_value_in(field: u8, item: &Item, v: u32) -> bool
 pub fn is_in_field(field: u8, items: &[FieldItem], v: u32) -> bool
     ensures { result ≡ in_field field items.now v }
 {
-    items.iter().any(|i| i.field == field && is_value_in(field, &i.item, v))
+    items
+        .iter()
+        .any(|i| i.field == field && is_value_in(field, &i.item, v))
 }
 
 /// For each number below `N`, the first number of a field's set from `start` and it on, or `N - 1`

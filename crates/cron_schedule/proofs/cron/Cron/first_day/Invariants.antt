@@ -7,5 +7,5 @@ abbrev pub invariant-loop-day : goal.invariant-loop-day
 invariant-loop-day g l = record {
   none : NonePasses (is_day_due l.self) l.fn.from l.day;
   least : l.fn.from ≤ l.day;
-  cost : l.steps + l.fn.from ≡ l.fn.steps + l.day
+  cost : l.steps + l.fn.from ≡ l.fn.steps + l.day;
 }

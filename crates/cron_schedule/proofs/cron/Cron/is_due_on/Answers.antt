@@ -21,5 +21,5 @@ returns-then-not-is_year_in-clause-due g c =
     (elim c.then-not-is_year_in.branch [
       | then-not-is_year_in-via-then-not-is_year_in w ↦ inl (sym c.is_year_in.ensures ∙ w.if-not-is_year_in.true)
       | then-not-is_year_in-via-else-not-is_year_in+then-not-has w ↦
-        inr (sym (rw c.self.view_is at (w.if-not-has.ensures (λ v. in_field 5 c.self.inside.items v) c.self.invariant.month)))
+          inr (sym (rw c.self.view_is at (w.if-not-has.ensures (λ v. in_field 5 c.self.inside.items v) c.self.invariant.month)))
     ]) ∙ sym day

@@ -19,5 +19,5 @@ invariant_of-result c = rw (← c.as_slice-list.ensures) (record {
   month = from_zero 5 c.as_slice-list.result.now 13 _ c.table_of-months.ensures;
   weekday = from_zero 6 c.as_slice-list.result.now 8 _ c.table_of-weekdays.ensures;
   year = c.table_of-years.ensures;
-  plain_is = c.all_plain-plain.ensures
+  plain_is = c.all_plain-plain.ensures;
 })

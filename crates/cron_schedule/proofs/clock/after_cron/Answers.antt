@@ -1,5 +1,5 @@
 use Rattle.cron_schedule.proofs.AfterLemmas.{none_due, start_late, first_due}
-use Rattle.cron_schedule.proofs.schedule.after_cron.Goals as goal
+use Rattle.cron_schedule.proofs.clock.after_cron.Goals as goal
 
 pub returns-in-None-clause-time : goal.returns-in-None-clause-time
 returns-in-None-clause-time g c = start_late c.args.cron.now c.args.offset c.args.t c.in-None.ensures.none

@@ -1,0 +1,163 @@
+//! The worked examples of schedules.
+
+use super::fault::ParseFault;
+use super::schedule::Schedule;
+use job_values::{Moment, Offset, ScheduleFault, ScheduleKind, Text};
+use std::alloc::Global;
+
+fn read(alloc: Global, kind: ScheduleKind, text: &str) -> Result<Schedule, ParseFault> {
+    Schedule::parse(alloc, kind, &Text::copied(alloc, text)?)
+}
+
+fn number(moment: Option<Moment>) -> u64 {
+    match moment {
+        Some(moment) => moment.get(),
+        None => 0,
+    }
+}
+
+#[test]
+fn fixed_rates_and_none(rt: HostRuntime) -> Result<(), ParseFault> {
+    let offset = Offset::new(0).expect(&rt, "an offset");
+    let start = Moment::new(100_000).expect(&rt, "a moment");
+    let last = Moment::new(4_102_444_799_000).expect(&rt, "a moment");
+    let rate = read(rt.alloc(), ScheduleKind::FixRate, "0000000010")?.copy(rt.alloc())?;
+    assert_eq!(rt; number(rate.after(start, offset)), 110_000);
+    assert_eq!(rt; number(rate.after(last, offset)), 0);
+    let never = read(rt.alloc(), ScheduleKind::Never, "any text")?;
+    assert_eq!(rt; number(never.after(start, offset)), 0);
+    Ok(())
+}
+
+/// Text, offset in seconds, moment, and the times after it (0 for none).
+#[test]
+fn cron_times(rt: HostRuntime) -> Result<(), ParseFault> {
+    let june: u64 = 1_717_200_000_000;
+    for (text, offset, start, first, second) in [
+        (
+            "0 0 0 LW * ?",
+            0,
+            june,
+            1_719_532_800_000,
+            1_722_384_000_000,
+        ),
+        (
+            "0 0 0 15W * ?",
+            0,
+            june,
+            1_718_323_200_000,
+            1_721_001_600_000,
+        ),
+        (
+            "0 0 0 1W * ?",
+            0,
+            june,
+            1_717_372_800_000,
+            1_719_792_000_000,
+        ),
+        (
+            "0 0 0 L-3 * ?",
+            0,
+            june,
+            1_719_446_400_000,
+            1_722_124_800_000,
+        ),
+        (
+            "0 0 0 ? * 6#3",
+            0,
+            june,
+            1_718_928_000_000,
+            1_721_347_200_000,
+        ),
+        (
+            "0 0 0 ? * 6L",
+            0,
+            june,
+            1_719_532_800_000,
+            1_721_952_000_000,
+        ),
+        (
+            "0 0 0 ? * FRI#5",
+            0,
+            june,
+            1_724_976_000_000,
+            1_732_838_400_000,
+        ),
+        (
+            "0 30 8 ? * MON-FRI",
+            28_800,
+            june,
+            1_717_374_600_000,
+            1_717_461_000_000,
+        ),
+        (
+            "0 0/5 14 * * ?",
+            0,
+            june,
+            1_717_250_400_000,
+            1_717_250_700_000,
+        ),
+        (
+            "0 0 22-2/2 * * ?",
+            0,
+            june,
+            1_717_207_200_000,
+            1_717_279_200_000,
+        ),
+        ("0 0 0 29 2 ? *", 0, 3_981_300_000_000, 3_981_312_000_000, 0),
+        (
+            "0 0 0 31 * ?",
+            0,
+            june,
+            1_722_384_000_000,
+            1_725_062_400_000,
+        ),
+    ] {
+        let schedule = read(rt.alloc(), ScheduleKind::Cron, text)?.copy(rt.alloc())?;
+        let offset = Offset::new(offset).expect(&rt, "an offset");
+        let start = Moment::new(start).expect(&rt, "a moment");
+        let next = schedule.after(start, offset).expect(&rt, "a due time");
+        assert_eq!(rt; next.get(), first, "first at {text}");
+        assert_eq!(rt;
+            number(schedule.after(next, offset)),
+            second,
+            "second at {text}"
+        );
+    }
+    Ok(())
+}
+
+/// Kind, text, and the first fault: field and place.
+#[test]
+fn faults(rt: HostRuntime) -> Result<(), ParseFault> {
+    let long =
+        "0 0 0 1 1 ?                                                                                                                      ";
+    for (kind, text, field, place) in [
+        (ScheduleKind::Cron, "* * * * * *", 6, 11),
+        (ScheduleKind::Cron, "0 0 0 32 * ?", 4, 7),
+        (ScheduleKind::Cron, "0 0 0 ? *", 6, 10),
+        (ScheduleKind::Cron, "0 0 0 1,L * ?", 4, 9),
+        (ScheduleKind::Cron, "0 0 0 ? * ? 2099 x", 8, 18),
+        (ScheduleKind::Cron, "", 1, 1),
+        (ScheduleKind::Cron, "0 0 ", 3, 5),
+        (ScheduleKind::Cron, "0 0 0 L,1 * ?", 4, 7),
+        (ScheduleKind::Cron, "0 0 0 1, * ?", 4, 9),
+        (ScheduleKind::Cron, "0 0 0 1 1 ? 2000-1999", 7, 13),
+        (ScheduleKind::Cron, long, 0, 129),
+        (ScheduleKind::Never, long, 0, 129),
+        (ScheduleKind::FixRate, long, 0, 129),
+        (ScheduleKind::FixRate, "0", 0, 1),
+        (ScheduleKind::FixRate, "2147483648", 0, 1),
+        (ScheduleKind::FixRate, "00000000001", 0, 1),
+        (ScheduleKind::FixRate, "+1", 0, 1),
+    ] {
+        match read(rt.alloc(), kind, text) {
+            Err(ParseFault::Bad(fault)) => {
+                let ScheduleFault { field: f, place: p } = fault;
+                assert_eq!(rt; (f, p), (field, place), "at {text}");
+            }
+            _ => assert!(rt; false, "no fault at {text}"),
+        }
+    }
+    Ok(())
+}

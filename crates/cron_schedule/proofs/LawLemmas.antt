@@ -32,15 +32,19 @@ least_by_test items offset t None h =
     let none : is_due items offset v ≡ false = h v (omega arith) (omega arith) in
     let pass : is_due items offset v ≡ true = test_by_due items offset v due in
     cc
-least_by_test items offset t (Some r) h =
-    (omega (arith, h.least), omega (arith, h.below), due_by_test items offset r h.passes, λ v later due.
+least_by_test items offset t (Some r) h = (
+  omega (arith, h.least),
+  omega (arith, h.below),
+  due_by_test items offset r h.passes,
+  λ v later due.
       elim (cases_lt v r) [
         | inr le ↦ le
         | inl lt ↦
-          let none : is_due items offset v ≡ false = h.none_before v (omega arith) lt in
-          let pass : is_due items offset v ≡ true = test_by_due items offset v due in
-          cc
-      ])
+            let none : is_due items offset v ≡ false = h.none_before v (omega arith) lt in
+            let pass : is_due items offset v ≡ true = test_by_due items offset v due in
+            cc
+      ],
+)
 
 -- what is not true is false
 not_true : (b : Bool) → (b ≡ true → ⊥) → b ≡ false
@@ -54,7 +58,7 @@ test_by_least items offset t (Some r) h = record {
   least = omega (arith, h.0);
   below = omega (arith, h.1);
   passes = test_by_due items offset r h.2;
-  none_before = λ v low before. not_true (is_due items offset v) (λ pass. let le : r ≤ v = h.3 v (omega arith) (due_by_test items offset v pass) in omega arith)
+  none_before = λ v low before. not_true (is_due items offset v) (λ pass. let le : r ≤ v = h.3 v (omega arith) (due_by_test items offset v pass) in omega arith);
 }
 
 pub time_is_least : TimeIsLeast

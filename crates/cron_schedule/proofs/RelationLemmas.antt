@@ -48,7 +48,7 @@ date_due items date h =
       year = left_true year month two;
       month = right_true year month two;
       day = right_true (year && month) day three;
-      weekday = right_true (year && month && day) weekday h
+      weekday = right_true (year && month && day) weekday h;
     }
 
 date_test : (items : List FieldItem) (date : Date) → DateDue items date → date_in_fields items date.year date.month date.day ≡ true
@@ -80,7 +80,7 @@ day_due items n h =
     record {
       date = made.0;
       is_day = made.2;
-      date_due = date_due items made.0 (sym (is_day_due-date items made.0 n made.2) ∙ h)
+      date_due = date_due items made.0 (sym (is_day_due-date items made.0 n made.2) ∙ h);
     }
 
 -- a date from 1970 on has a day number that is not negative
@@ -106,9 +106,9 @@ day_outside items z (inr le) h =
     elim (cases_second z) [
       | inr gone ↦ omega (arith, signed_arith)
       | inl at ↦
-        let test : is_day_due items at.0 ≡ true = day_test items z at.0 at.1 h in
-        let none : is_day_due items at.0 ≡ false = is_day_due-late items at.0 (omega (arith, signed_arith, at.1)) in
-        cc
+          let test : is_day_due items at.0 ≡ true = day_test items z at.0 at.1 h in
+          let none : is_day_due items at.0 ≡ false = is_day_due-late items at.0 (omega (arith, signed_arith, at.1)) in
+          cc
     ]
 
 -- the time of day at a second of the day
@@ -123,7 +123,7 @@ time_due items s time hour minute second h =
     record {
       hour = rw hour (left_true (in_field 3 items (s / 3600)) (is_hour_second_due items (s % 3600)) h);
       minute = rw minute (left_true (in_field 2 items (s % 3600 / 60)) (in_field 1 items (s % 3600 % 60)) rest);
-      second = rw second (right_true (in_field 2 items (s % 3600 / 60)) (in_field 1 items (s % 3600 % 60)) rest)
+      second = rw second (right_true (in_field 2 items (s % 3600 / 60)) (in_field 1 items (s % 3600 % 60)) rest);
     }
 
 -- a second of the clock that passes gives a moment that is due
@@ -137,7 +137,7 @@ due_at items offset t v whole at h =
       civil = civil;
       is_civil = omega (arith, signed_arith, civil_nanos-parts civil, day.is_day, time.4, at);
       time_due = time_due items (v % 86400) time.0 time.1 time.2 time.3 (right_true (is_day_due items (v / 86400)) (is_second_due items (v % 86400)) h);
-      date_due = day.date_due
+      date_due = day.date_due;
     }
 
 -- a moment that passes the test is due
@@ -148,8 +148,8 @@ due_by_test items offset t h =
     let whole : t % 1000 ≡ 0 = grind (arith, nat_tests) in
     elim (cases_second (pos (t / 1000) +ℤ offset)) [
       | inr gone ↦
-        let none : is_clock_due items (pos (t / 1000) +ℤ offset) ≡ false = clock_before items (pos (t / 1000) +ℤ offset) gone in
-        cc
+          let none : is_clock_due items (pos (t / 1000) +ℤ offset) ≡ false = clock_before items (pos (t / 1000) +ℤ offset) gone in
+          cc
       | inl at ↦ due_at items offset t at.0 whole at.1 (sym (clock_at items (pos (t / 1000) +ℤ offset) at.0 at.1) ∙ clock)
     ]
 
@@ -166,21 +166,21 @@ pub test_by_due : (items : List FieldItem) (offset : ℤ) (t : ℕ) → Due item
 test_by_due items offset t h =
     elim (cases_second (epoch_day h.civil.date)) [
       | inr gone ↦
-        let from = number_from h.civil.date (year_bounds items h.civil.date.year h.date_due.year).0 in
-        absurd (omega (arith, signed_arith))
+          let from = number_from h.civil.date (year_bounds items h.civil.date.year h.date_due.year).0 in
+          absurd (omega (arith, signed_arith))
       | inl day ↦
-        let seconds = time_seconds h.civil.time in
-        let v = day.0 * 86400 + seconds in
-        let within : seconds < 86400 = omega (arith, h.civil.time.hour_in, h.civil.time.minute_in, h.civil.time.second_in) in
-        let at : pos (t / 1000) +ℤ offset ≡ pos v = omega (arith, signed_arith, civil_nanos-parts h.civil, h.is_civil, h.whole, day.1, h.civil.time.subsec_in) in
-        let day_is : v / 86400 ≡ day.0 = omega arith in
-        let second_is : v % 86400 ≡ seconds = omega arith in
-        let whole = h.whole in
-        let test : nat_eq (t % 1000) 0 ≡ true = grind (arith, nat_tests) in
-        both_true (nat_eq (t % 1000) 0) (is_clock_due items (pos (t / 1000) +ℤ offset)) test
-        (clock_at items (pos (t / 1000) +ℤ offset) v at ∙ both_true (is_day_due items (v / 86400)) (is_second_due items (v % 86400))
-        (rw day_is (day_test items (epoch_day h.civil.date) day.0 day.1 (record { date = h.civil.date; is_day = refl; date_due = h.date_due })))
-        (time_test items h.civil.time (v % 86400) second_is h.time_due))
+          let seconds = time_seconds h.civil.time in
+          let v = day.0 * 86400 + seconds in
+          let within : seconds < 86400 = omega (arith, h.civil.time.hour_in, h.civil.time.minute_in, h.civil.time.second_in) in
+          let at : pos (t / 1000) +ℤ offset ≡ pos v = omega (arith, signed_arith, civil_nanos-parts h.civil, h.is_civil, h.whole, day.1, h.civil.time.subsec_in) in
+          let day_is : v / 86400 ≡ day.0 = omega arith in
+          let second_is : v % 86400 ≡ seconds = omega arith in
+          let whole = h.whole in
+          let test : nat_eq (t % 1000) 0 ≡ true = grind (arith, nat_tests) in
+          both_true (nat_eq (t % 1000) 0) (is_clock_due items (pos (t / 1000) +ℤ offset)) test
+          (clock_at items (pos (t / 1000) +ℤ offset) v at ∙ both_true (is_day_due items (v / 86400)) (is_second_due items (v % 86400))
+          (rw day_is (day_test items (epoch_day h.civil.date) day.0 day.1 (record { date = h.civil.date; is_day = refl; date_due = h.date_due })))
+          (time_test items h.civil.time (v % 86400) second_is h.time_due))
     ]
 
 low_false : (a b : Bool) → b ≡ false → (a && b) ≡ false
@@ -195,6 +195,6 @@ is_due-outside items offset t (inr le) =
     elim (cases_second (pos (t / 1000) +ℤ offset)) [
       | inr gone ↦ absurd (omega (arith, signed_arith))
       | inl at ↦
-        low_false (nat_eq (t % 1000) 0) (is_clock_due items (pos (t / 1000) +ℤ offset))
-        (clock_at items (pos (t / 1000) +ℤ offset) at.0 at.1 ∙ is_local_due-late items at.0 (omega (arith, signed_arith, at.1)))
+          low_false (nat_eq (t % 1000) 0) (is_clock_due items (pos (t / 1000) +ℤ offset))
+          (clock_at items (pos (t / 1000) +ℤ offset) at.0 at.1 ∙ is_local_due-late items at.0 (omega (arith, signed_arith, at.1)))
     ]

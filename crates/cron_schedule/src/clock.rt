@@ -76,7 +76,12 @@ pub fn is_due_at<L: Ledger>(cron: &Cron, t: Moment, offset: Offset, steps: &mut 
     is_clock_time_due(cron, t, offset, steps)
 }
 
-fn is_clock_time_due<L: Ledger>(cron: &Cron, t: Moment, offset: Offset, steps: &mut Steps<L>) -> bool
+fn is_clock_time_due<L: Ledger>(
+    cron: &Cron,
+    t: Moment,
+    offset: Offset,
+    steps: &mut Steps<L>,
+) -> bool
     ensures { result ≡ is_due cron.now offset t }
 {
     if t.get() % 1000 != 0 {

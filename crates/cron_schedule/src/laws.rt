@@ -10,11 +10,9 @@ pub fn law_after_rises()
 /// The time after a moment, under a cron text, is the least moment after it that is due.
 pub fn law_time_is_least()
     ensures { TimeIsLeast }
-{
-}
+{}
 
 /// What is the least moment after a moment that is due is the time after it.
 pub fn law_least_is_time()
     ensures { LeastIsTime }
-{
-}
+{}

@@ -3,8 +3,7 @@
 
 mod cron;
 
-use std::env;
-use std::io;
+use std::{env, io};
 
 fn main(rt: HostRuntime) -> io::Result<()> {
     let mut smoke = false;

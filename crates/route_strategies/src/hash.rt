@@ -1,10 +1,11 @@
 //! The consistent hash.
-ghost use Rattle.std.specs.Prelude.{◌≡◌, take};
+ghost use Rattle.std.specs.Prelude.{◌≡◌, ◌<◌, [], length, take, slice_index_or};
 ghost use Rattle.std.specs.Int.{w32, from_le_bytes};
-ghost use Rattle.route_strategies.specs.Hash.{text_number, node_text, job_number};
+ghost use Rattle.route_strategies.specs.Hash.{text_number, node_text, job_number, IsHashPlace};
+ghost use Rattle.route_strategies.specs.Nearest.{rank, IsNearestRank};
 
 use itoa::Buffer;
-use job_values::JobId;
+use job_values::{Address, JobId};
 use md5::{Digest, Md5};
 
 /// How many nodes each address has.
@@ -42,4 +43,57 @@ pub(crate) fn number_of_node(address: &str, node: u32) -> u32
     hasher.update("-NODE-");
     hasher.update(digits.format(node));
     number_in(hasher.finalize())
+}
+
+const WHOLE: u64 = 1 << 32;
+
+fn rank_of(bound: u32, number: u32) -> u64
+    ensures { result ≡ rank bound number }
+{
+    if bound <= number {
+        number as u64
+    } else {
+        number as u64 + WHOLE
+    }
+}
+
+// The least rank of the nodes of an address.
+fn nearest_rank(address: &str, bound: u32) -> u64
+    ensures { IsNearestRank address.now bound NODES result }
+{
+    let mut nearest = rank_of(bound, number_of_node(address, 0));
+    for node in 1..NODES {
+        let rank = rank_of(bound, number_of_node(address, node));
+        if rank < nearest {
+            nearest = rank;
+        }
+    }
+    nearest
+}
+
+fn rank_at_place(list: &[Address], place: usize, bound: u32) -> u64
+    requires { place < length list.now }
+    ensures { IsNearestRank (slice_index_or list.now place []) bound NODES result }
+{
+    let address = &list[place];
+    nearest_rank(address.as_str(), bound)
+}
+
+// The place that the consistent hash gives a job.
+pub(crate) fn hash_place(job: JobId, list: &[Address]) -> usize
+    requires { 0 < length list.now }
+    ensures place { IsHashPlace job list.now result }
+    ensures within { result < length list.now }
+{
+    let bound = job_number_of(job);
+    let mut nearest = 0;
+    let mut least = rank_at_place(list, 0, bound);
+    for place in 1..list.len() {
+        let rank = rank_at_place(list, place, bound);
+        if rank <= least {
+            nearest = place;
+            least = rank;
+        }
+    }
+    nearest
 }

@@ -3,6 +3,7 @@
 #![tactic(auto)]
 
 pub mod hash;
+mod least;
 mod picks;
 
 pub use hash::number_of;

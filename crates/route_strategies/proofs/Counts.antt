@@ -1,13 +1,13 @@
 -- One more pick in what is kept of a job.
-use Rattle.std.proofs.Common.{◌≡◌, ℕ, ◌+◌, ◌-◌, ◌^◌, ◌<◌, ◌≤◌, min, Bool, true, false, cond, List, [], ◌∷◌, ◌++◌, length, Option, None, Some, refl, sym, ◌∙◌, ap, subst, arith, ⊎_elim, String}
-use Rattle.std.specs.Prelude.{not, reverse, count_by, if◌then◌else◌}
+use Rattle.std.proofs.Common.{◌≡◌, ℕ, ◌+◌, ◌-◌, ◌^◌, ◌<◌, ◌≤◌, min, Bool, true, false, cond, List, [], ◌∷◌, ◌++◌, length, Option, Some, refl, ap, subst, arith, ⊎_elim, String}
+use Rattle.std.specs.Prelude.{not, if◌then◌else◌}
 use Rattle.std.specs.Map.{lookup}
 use Rattle.std.specs.Option.{option_map_or}
 use Rattle.std.specs.Str.{bytes_eq}
 use Rattle.std.specs.String.{string_bytes}
 use Rattle.std.specs.List.{suffix_len, prefix_len}
 use Rattle.std.proofs.lemmas.List.{reverse-append, length_push}
-use Rattle.std.proofs.lemmas.List.Sums.{sum_by_push, count_by-le-length, suffix_len-le-length}
+use Rattle.std.proofs.lemmas.List.Sums.{sum_by_push, count_by-le-length}
 use Rattle.std.proofs.lemmas.Bool.{cases_Bool}
 use Rattle.std.proofs.lemmas.Slice.Eq.{bytes_eq-Decides}
 use Rattle.std.specs.Prelude.{string_eq, Result, Ok, Err, IsOk, OnOk}
@@ -15,7 +15,7 @@ use Rattle.std.proofs.lemmas.Map.Text.{hash_map_updates_text}
 use Rattle.indexmap.specs.IndexMap.{IndexMap, Updates, get_by_text}
 use Rattle.route_strategies.specs.Entries.{by_bytes}
 use Rattle.route_strategies.specs.declared.picks.Picked.{Picked}
-use Rattle.route_strategies.specs.Picks.{PickCounts, picked_in, count_in, last_in, pick_count, last_pick, IsPicks}
+use Rattle.route_strategies.specs.Picks.{PickCounts, picked_in, count_in, pick_count, last_pick, IsPicks}
 
 -- a look-up by bytes among the bytes of the keys
 pub lookup-by_bytes : {A X : Type 0} (bytes : List ℕ) (entries : List (String A × X))
@@ -45,7 +45,7 @@ last_pick-other : (picks : List (List ℕ)) (pick address : List ℕ) → bytes_
     → last_pick (picks ++ pick ∷ []) address ≡ last_pick picks address
 last_pick-other picks pick address other =
     rw (suffix_len-push (λ picked. not (bytes_eq picked address)) picks pick, other)
-        (omega (arith, length_push picks pick))
+    (omega (arith, length_push picks pick))
 
 -- what is kept of one more pick
 pub picks_push : (old new : PickCounts) (picks : List (List ℕ)) (pick : List ℕ) → IsPicks old picks
@@ -54,23 +54,23 @@ pub picks_push : (old new : PickCounts) (picks : List (List ℕ)) (pick : List �
     → ((other : List ℕ) → picked_in new other ≡ (if bytes_eq pick other then Some (record { count = min (count_in old pick + 1) (2 ^ 64 - 1); last = new.number }) else picked_in old other))
     → IsPicks new (picks ++ pick ∷ [])
 picks_push old new picks pick is few number raised = record {
-    number = omega (arith, is.number, length_push picks pick);
-    count = λ address.
-        ⊎_elim
-        (λ (same : bytes_eq pick address ≡ true).
-            let one : pick ≡ address = same_bytes pick address same in
-            let few_of : pick_count picks address ≤ length picks = count_by-le-length (λ picked. bytes_eq picked address) picks in
-            rw (pick_count-push picks pick address, raised address, same, one) (omega (arith, is.number, is.count address, few_of)))
-        (λ (other : bytes_eq pick address ≡ false).
-            rw (pick_count-push picks pick address, raised address, other) (omega (arith, is.count address)))
-        (cases_Bool (bytes_eq pick address));
-    last = λ address.
-        ⊎_elim
-        (λ (same : bytes_eq pick address ≡ true).
-            rw (last_pick-same picks pick address same, raised address, same) (omega (arith, is.number)))
-        (λ (other : bytes_eq pick address ≡ false).
-            rw (last_pick-other picks pick address other, raised address, other) (is.last address))
-        (cases_Bool (bytes_eq pick address));
+  number = omega (arith, is.number, length_push picks pick);
+  count = λ address.
+      ⊎_elim
+      (λ (same : bytes_eq pick address ≡ true).
+      let one : pick ≡ address = same_bytes pick address same in
+      let few_of : pick_count picks address ≤ length picks = count_by-le-length (λ picked. bytes_eq picked address) picks in
+      rw (pick_count-push picks pick address, raised address, same, one) (omega (arith, is.number, is.count address, few_of)))
+      (λ (other : bytes_eq pick address ≡ false).
+      rw (pick_count-push picks pick address, raised address, other) (omega (arith, is.count address)))
+      (cases_Bool (bytes_eq pick address));
+  last = λ address.
+      ⊎_elim
+      (λ (same : bytes_eq pick address ≡ true).
+      rw (last_pick-same picks pick address same, raised address, same) (omega (arith, is.number)))
+      (λ (other : bytes_eq pick address ≡ false).
+      rw (last_pick-other picks pick address other, raised address, other) (is.last address))
+      (cases_Bool (bytes_eq pick address));
 }
 
 -- a look-up by bytes after one key was written
@@ -90,7 +90,7 @@ picks_raised old m n number picks pick view is few raised =
     let now : IsPicks (record { number = number; addresses = by_bytes m.entries }) picks = subst (λ (c : PickCounts). IsPicks c picks) view is in
     let below : number < 2 ^ 64 - 1 = subst (λ (c : PickCounts). c.number < 2 ^ 64 - 1) view few in
     picks_push (record { number = number; addresses = by_bytes m.entries }) (record { number = number + 1; addresses = by_bytes n.entries }) picks pick now below refl
-        (λ other. rw (lookup-by_bytes other n.entries, lookup-by_bytes other m.entries, lookup-by_bytes pick m.entries) (raised other))
+    (λ other. rw (lookup-by_bytes other n.entries, lookup-by_bytes other m.entries, lookup-by_bytes pick m.entries) (raised other))
 
 -- what holds on success of a call that succeeded
 pub on_ok : {T E : Type 0} (r : Result T E) (P : Type 0) → IsOk r → OnOk r P → P

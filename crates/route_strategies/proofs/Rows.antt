@@ -1,14 +1,13 @@
 -- Look-ups among the rows.
-use Rattle.std.proofs.Common.{◌≡◌, ℕ, ◌<◌, Bool, true, false, cond, List, [], ◌∷◌, Option, None, Some, refl, sym, ◌∙◌, ap, subst}
+use Rattle.std.proofs.Common.{◌≡◌, ℕ, ◌<◌, Bool, true, false, cond, List, [], ◌∷◌, Option, None, Some, refl, sym, ◌∙◌, ap}
 use Rattle.std.specs.Prelude.{nat_eq, unwrap_or, MatchOption, IsSomeAnd}
 use Rattle.std.specs.Map.{lookup, set_value}
 use Rattle.std.specs.Option.{option_map}
 use Rattle.std.proofs.lemmas.Map.Made.{lookup-map_values}
 use Rattle.std.proofs.lemmas.Map.Steps.{set_value_same}
-use Rattle.std.proofs.lemmas.Bool.{cases_Bool}
 use Rattle.route_strategies.specs.Picks.{PickCounts, JobState, no_picks}
 use Rattle.route_strategies.specs.Rows.{kept_rows, room_rows}
-use Rattle.route_strategies.specs.State.{RouteRoom, counts_of, HasRoom}
+use Rattle.route_strategies.specs.State.{counts_of, HasRoom}
 
 -- a look-up of what is kept
 pub lookup-kept : (rows : List (ℕ × JobState)) (job : ℕ)
@@ -60,7 +59,7 @@ pub counts_of-same : (new old : List (ℕ × JobState)) (job : ℕ) → lookup (
     → counts_of (kept_rows new) job ≡ counts_of (kept_rows old) job
 counts_of-same new old job same =
     rw (lookup-kept new job, lookup-kept old job)
-        (ap (λ (row : Option JobState). unwrap_or (option_map (λ s. s.kept) row) no_picks) same)
+    (ap (λ (row : Option JobState). unwrap_or (option_map (λ s. s.kept) row) no_picks) same)
 
 -- what is kept after a row was written
 kept_rows-set_value : (test : ℕ → Bool) (rows : List (ℕ × JobState)) (state : JobState)
@@ -79,4 +78,4 @@ pub kept_rows-same : (job : ℕ) (rows : List (ℕ × JobState)) (old new : JobS
 kept_rows-same job rows old new found same =
     kept_rows-set_value (nat_eq job) rows new
     ∙ set_value_same (nat_eq job) (kept_rows rows) new.kept
-        (lookup-kept rows job ∙ ap (option_map (λ (s : JobState). s.kept)) found ∙ ap Some (sym same))
+    (lookup-kept rows job ∙ ap (option_map (λ (s : JobState). s.kept)) found ∙ ap Some (sym same))

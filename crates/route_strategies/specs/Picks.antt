@@ -1,8 +1,8 @@
 -- What is kept of the picks of each job.
-use Rattle.std.specs.Prelude.{◌≡◌, ℕ, ◌+◌, ◌-◌, ◌<◌, Bool, not, nat_eq, List, [], ◌∷◌, length, Option, None, Some, count_by, MatchOption, map}
+use Rattle.std.specs.Prelude.{◌≡◌, ℕ, ◌-◌, not, List, [], length, Option, count_by}
 use Rattle.std.specs.List.{suffix_len}
 use Rattle.std.specs.Str.{bytes_eq}
-use Rattle.std.specs.Option.{option_map_or, option_and_then}
+use Rattle.std.specs.Option.{option_map_or}
 use Rattle.std.specs.Map.{lookup}
 use Rattle.route_strategies.specs.declared.picks.Picked.{Picked}
 

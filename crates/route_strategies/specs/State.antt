@@ -1,5 +1,5 @@
 -- What is kept of the picks of all jobs of an admin.
-use Rattle.std.specs.Prelude.{◌≡◌, ℕ, ◌<◌, nat_eq, unwrap_or, List, Option, MatchOption}
+use Rattle.std.specs.Prelude.{ℕ, ◌<◌, nat_eq, unwrap_or, List, MatchOption}
 use Rattle.std.specs.Map.{lookup}
 use Rattle.route_strategies.specs.Picks.{PickCounts, no_picks, IsPicks}
 

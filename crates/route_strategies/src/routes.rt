@@ -31,8 +31,8 @@ impl Model for Routes {
     ghost Value = { RoutesState };
 
     ghost view = { λ r. record {
-        kept = kept_rows r.jobs.entries;
-        room = record { addresses = room_rows r.jobs.entries; jobs = spare r.jobs; fresh = r.fresh.room };
+      kept = kept_rows r.jobs.entries;
+      room = record { addresses = room_rows r.jobs.entries; jobs = spare r.jobs; fresh = r.fresh.room };
     } };
 
     ghost invariant = { λ r. r.fresh.kept ≡ no_picks };
@@ -64,6 +64,13 @@ impl Routes {
             Way::Beat => Ok(Choice::Beat(copied_list(self.alloc, ask.list)?)),
             Way::Idle => Ok(Choice::Idle(copied_list(self.alloc, ask.list)?)),
         }
+    }
+
+    /// How many picks a job has.
+    pub fn number_of_picks(&self, job: JobId) -> u64
+        ensures { result ≡ (counts_of self.now.kept job).number }
+    {
+        self.picks_of(job).number()
     }
 
     fn picks_of(&self, job: JobId) -> &JobPicks

@@ -1,4 +1,3 @@
-use Rattle.std.proofs.Common.{Some}
 use Rattle.route_strategies.proofs.Counts.{get_by_text-written, on_ok}
 use Rattle.route_strategies.proofs.picks.put.Goals as goal
 

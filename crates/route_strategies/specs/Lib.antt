@@ -1,0 +1,8 @@
+pub mod Choice
+pub mod Entries
+pub mod Hash
+pub mod Nearest
+pub mod Picks
+pub mod Rows
+pub mod State
+pub mod Way

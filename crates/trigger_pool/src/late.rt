@@ -1,0 +1,98 @@
+//! How many sendings of each job were late in the minute of the last one.
+ghost use Rattle.std.specs.Prelude.{◌≡◌, ◌≢◌, ℕ, ◌+◌, ◌-◌, ◌^◌, ◌<◌, ◌≤◌, ◌↔◌, [], ◌∷◌, ◌++◌, List, Some, min, nat_eq, if◌then◌else◌, IsTrue, OnOk, OnErr, unwrap_or, Bool, true, false};
+ghost use Rattle.indexmap.specs.IndexMap.{get, spare, IsUnchanged, IsEmpty};
+ghost use Rattle.trigger_pool.specs.Reports.{Sending, no_counts, late_count, IsTally};
+
+use super::limits::{LATE_ABOVE, MINUTE};
+use indexmap::IndexMap;
+use job_values::{JobId, Moment, NoMemory};
+use std::alloc::Global;
+use std::marker::Model;
+
+/// The late sendings of one minute, per job.
+#[derive(Drop)]
+pub(crate) struct LateCounts {
+    minute: Option<u64>,
+    counts: IndexMap<u32, u64>,
+}
+
+impl Model for LateCounts {
+    ghost use Rattle.trigger_pool.specs.Late.{KeptCounts};
+    ghost use Rattle.indexmap.specs.IndexMap.{spare};
+
+    ghost Value = { KeptCounts };
+
+    ghost view = { λ a. record { kept = record { minute = a.minute; late = a.counts.entries }; room = spare a.counts } };
+}
+
+impl LateCounts {
+    pub(crate) fn new(alloc: Global) -> LateCounts
+        ensures { result.kept ≡ no_counts }
+    {
+        LateCounts {
+            minute: None,
+            counts: IndexMap::new(alloc),
+        }
+    }
+
+    pub(crate) fn reserve(&mut self) -> Result<(), NoMemory>
+        ensures ok { OnOk result (1 ≤ self.new.room) }
+        ensures same { self.new.kept ≡ self.old.kept }
+        ensures room { self.old.room ≤ self.new.room }
+    {
+        self.counts.reserve(1).map_err(|_| NoMemory)?;
+        Ok(())
+    }
+
+    pub(crate) fn report(&mut self, job: JobId, start: Moment, end: Moment)
+        requires { 0 < self.old.room }
+        ensures tally { (sendings : List Sending) → IsTally self.old.kept sendings → IsTally self.new.kept (sendings ++ record { job = job; start = start; end = end } ∷ []) }
+        ensures room { self.old.room ≤ self.new.room + 1 }
+    {
+        let late = end.get() > start.get() + LATE_ABOVE;
+        begin_minute(&mut self.minute, &mut self.counts, end.get() / MINUTE);
+        raise_if(late, &mut self.counts, job.get());
+    }
+
+    pub(crate) fn count(&self, job: JobId) -> u64
+        ensures { result ≡ late_count self.now.kept job }
+    {
+        self.counts.get(&job.get()).copied().unwrap_or(0)
+    }
+}
+
+// Makes this the kept minute; another minute has no count yet.
+fn begin_minute(kept: &mut Option<u64>, counts: &mut IndexMap<u32, u64>, minute: u64)
+    ensures minute { kept.new ≡ Some minute }
+    ensures same { kept.old ≡ Some minute → counts.new.entries ≡ counts.old.entries }
+    ensures emptied { kept.old ≢ Some minute → counts.new.entries ≡ [] }
+    ensures room { spare counts.old ≤ spare counts.new }
+{
+    if *kept != Some(minute) {
+        *kept = Some(minute);
+        counts.clear();
+    }
+}
+
+// Raises the count of a job by one; at the greatest number it stays.
+fn raise(counts: &mut IndexMap<u32, u64>, job: u32)
+    requires { 0 < spare counts.old }
+    ensures raised { get nat_eq counts.new job ≡ Some (min (unwrap_or (get nat_eq counts.old job) 0 + 1) (2 ^ 64 - 1)) }
+    ensures others { (other : ℕ) → other ≢ job → get nat_eq counts.new other ≡ get nat_eq counts.old other }
+    ensures room { spare counts.old ≤ spare counts.new + 1 }
+{
+    let count = counts.get(&job).copied().unwrap_or(0);
+    let _ = counts.insert(job, count.saturating_add(1));
+}
+
+fn raise_if(late: bool, counts: &mut IndexMap<u32, u64>, job: u32)
+    requires { 0 < spare counts.old }
+    ensures skipped { late ≡ false → counts.new.entries ≡ counts.old.entries }
+    ensures raised { late ≡ true → get nat_eq counts.new job ≡ Some (min (unwrap_or (get nat_eq counts.old job) 0 + 1) (2 ^ 64 - 1)) }
+    ensures others { (other : ℕ) → other ≢ job → get nat_eq counts.new other ≡ get nat_eq counts.old other }
+    ensures room { spare counts.old ≤ spare counts.new + 1 }
+{
+    if late {
+        raise(counts, job);
+    }
+}

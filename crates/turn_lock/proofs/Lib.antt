@@ -2,3 +2,4 @@ pub mod Lists
 pub mod Totals
 pub mod Slots
 pub mod Turning
+pub mod Meeting

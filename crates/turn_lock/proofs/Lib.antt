@@ -3,3 +3,5 @@ pub mod Totals
 pub mod Slots
 pub mod Turning
 pub mod Meeting
+pub mod Asked
+pub mod Seated

@@ -5,7 +5,7 @@ use mathlib.Core.Option.{some, some-injective, some-ne-none}
 use mathlib.Core.Logic.{dite}
 use native.Mathlib.Decide.{dec_le}
 use lib.ListN.{get_elem?}
-use Rattle.atomic_table.specs.Table.{State, Step, Allows, Splits, Joins, keeps, opening}
+use Rattle.atomic_table.specs.Table.{State, Allows, Splits, Joins, keeps, opening}
 use Rattle.atomic_table.proofs.Lists.{set_else}
 use Rattle.turn_lock.specs.declared.view.View.{View}
 use Rattle.turn_lock.specs.declared.view.Held.{Held}
@@ -18,6 +18,13 @@ use Rattle.turn_lock.proofs.Slots.{off, set_there, slot_set, slot_snoc}
 
 no_ticket : (t : ℕ) → None ≡ Some t → ⊥
 no_ticket t e = cc
+
+module _ {O : Type 0} where
+  no_opening : (x : O) → None ≡ Some x → ⊥
+  no_opening x e = cc
+
+  same_opening : (o x : O) (a b : Option O) → a ≡ Some o → b ≡ Some o → a ≡ Some x → b ≡ Some x
+  same_opening o x a b p q r = q ∙ sym p ∙ r
 
 module _ {O E R M : Type 0} (stands : O → List (E × R) → M → Type 0) (o : O) where
   -- a machine without entries is in the slot, and one seat has all parts
@@ -47,6 +54,7 @@ module _ {O E R M : Type 0} (stands : O → List (E × R) → M → Type 0) (o :
         spent = λ _. refl;
         before = ([], refl);
         told = ([], refl);
+        also = λ x e. absurd (no_opening x e);
       }
       one : (id : ℕ) (v : View O E R) → get_elem? (first ∷ []) id ≡ some v → Fits o [] 0 0 (λ _. 0) id v
       one zero v e = subst (Fits o [] 0 0 (λ _. 0) 0) (some-injective first v e) (fits 0)
@@ -81,6 +89,7 @@ module _ {O E R M : Type 0} (stands : O → List (E × R) → M → Type 0) (o :
               spent = λ none. absurd (omega arith);
               before = mine.before;
               told = mine.told;
+              also = mine.also;
             })
             (λ j. record {
               opening = λ _. mine.opening (omega arith);
@@ -91,13 +100,14 @@ module _ {O E R M : Type 0} (stands : O → List (E × R) → M → Type 0) (o :
               spent = λ _. refl;
               before = (v.seen, refl);
               told = (v.seen, refl);
+              also = λ x e. absurd (no_opening x e);
             });
         slot = slot_snoc stands o k.log s.homes views right refl (slot_set stands o k.log s.homes s.views id v left at refl k.slot);
       }
 
   -- a seat takes in another's places and parts
-  pub meets : (id : ℕ) (v : View O E R) (other : ℕ) (w : View O E R) → 0 < v.parts → v.holds ≡ false → w.ticket ≡ None → w.holds ≡ false → Joins (Kept stands o) id v other w (joined v w) nobody
-  meets id v other w some_part free idle loose s k at apart there =
+  pub meets : (id : ℕ) (v : View O E R) (other : ℕ) (w : View O E R) → 0 < v.parts → 0 < w.parts → v.holds ≡ false → w.ticket ≡ None → w.holds ≡ false → Joins (Kept stands o) id v other w (joined v w) nobody
+  meets id v other w some_part their_part free idle loose s k at apart there =
       let both = joined v w in
       let views = set s.views id both in
       let was : get_elem? s.views other ≡ some w = sym (set_else s.views id other both apart) ∙ there in
@@ -132,6 +142,7 @@ module _ {O E R M : Type 0} (stands : O → List (E × R) → M → Type 0) (o :
               spent = λ none. absurd (omega arith);
               before = begun.0;
               told = begun.1;
+              also = λ x e. same_opening o x w.opening v.opening (theirs.opening their_part) (mine.opening some_part) e;
             })
             record {
               opening = λ h. absurd (omega arith);
@@ -142,6 +153,7 @@ module _ {O E R M : Type 0} (stands : O → List (E × R) → M → Type 0) (o :
               spent = λ _. refl;
               before = ([], refl);
               told = ([], refl);
+              also = λ x e. absurd (no_opening x e);
             };
         slot = slot_set stands o k.log s.homes views other w nobody there (sym loose) (slot_set stands o k.log s.homes s.views id v both at refl k.slot);
       }
@@ -154,8 +166,8 @@ module _ {O E R M : Type 0} (stands : O → List (E × R) → M → Type 0) (o :
       once_each r r' le le' inside p = within p (length k.log) v.own w.own (length v.seen) (length w.seen) r r' le le' (inside p) (dec_le 1 p) (dec_le p (length k.log))
 
   -- what both seats had seen begins what the joined seat has seen, and there are 2^63 parts
-  pub settles : (st : Step (Option (Held M))) (id : ℕ) (v : View O E R) (c : List (ℕ × Option (Held M))) → Allows (Kept stands o) 1 id (v, c) 0 (λ n. n) (Settled st (v, c))
-  settles st id v c s k slots at small =
+  pub settles : (id : ℕ) (v : View O E R) (c : List (ℕ × Option (Held M))) → Allows (Kept stands o) 1 id (v, c) 0 (λ n. n) (Settled (v, c))
+  settles id v c s k slots at small =
       let mine = k.each id v at in
       let w = settled v in
       (
@@ -180,8 +192,9 @@ module _ {O E R M : Type 0} (stands : O → List (E × R) → M → Type 0) (o :
             spent = mine.spent;
             before = (v.seen, refl);
             told = (v.seen, refl);
+            also = λ x e. absurd (no_opening x e);
           };
           slot = slot_set stands o k.log s.homes s.views id v w at refl k.slot;
         },
-        (refl, mine.before, mine.told, (let t = total_at (λ (u : View O E R). u.parts) s.views id v at in let p = k.parts in omega arith), mine.rising),
+        (refl, mine.before, mine.told, (let t = total_at (λ (u : View O E R). u.parts) s.views id v at in let p = k.parts in omega arith), mine.rising, mine.also),
       )

@@ -6,7 +6,7 @@ use mathlib.Core.Option as maybe
 use mathlib.Core.Logic.{dite}
 use native.Mathlib.Decide.{ℕ_discrete, dec_le}
 use lib.ListN.{get_elem?}
-use Rattle.atomic_table.specs.Table.{State, Step, Act, Allows, Valid, keeps, takes, gives, stepped, carried_after}
+use Rattle.atomic_table.specs.Table.{State, Act, Allows, Valid, keeps, takes, gives, stepped, carried_after}
 use Rattle.atomic_table.proofs.Lists.{set_again}
 use Rattle.turn_lock.specs.declared.view.View.{View}
 use Rattle.turn_lock.specs.declared.view.Held.{Held}
@@ -25,9 +25,9 @@ none_is t a e f = cc
 
 module _ {O E R M : Type 0} (stands : O → List (E × R) → M → Type 0) (o : O) where
   -- one more ticket is drawn, and is this seat's
-  pub draws : (st : Step (Option (Held M))) (id : ℕ) (v : View O E R) (c : List (ℕ × Option (Held M))) → 0 < v.parts → v.ticket ≡ None → v.holds ≡ false
-      → Allows (Kept stands o) 1 id (v, c) 1 (λ n. (n + 1) % 2 ^ 64) (Drew st (v, c))
-  draws st id v c some_part idle free s k slots at small =
+  pub draws : (id : ℕ) (v : View O E R) (c : List (ℕ × Option (Held M))) → 0 < v.parts → v.ticket ≡ None → v.holds ≡ false
+      → Allows (Kept stands o) 1 id (v, c) 1 (λ n. (n + 1) % 2 ^ 64) (Drew (v, c))
+  draws id v c some_part idle free s k slots at small =
       let w = drawing v k.drawn in
       let owner : ℕ → ℕ = λ t. cond (t == k.drawn) id (k.owner t) in
       let mine = k.each id v at in
@@ -54,6 +54,7 @@ module _ {O E R M : Type 0} (stands : O → List (E × R) → M → Type 0) (o :
                 spent = f.spent;
                 before = f.before;
                 told = f.told;
+                also = f.also;
               })
               k.each
               record {
@@ -65,16 +66,17 @@ module _ {O E R M : Type 0} (stands : O → List (E × R) → M → Type 0) (o :
                 spent = mine.spent;
                 before = mine.before;
                 told = mine.told;
+                also = mine.also;
               };
           slot = slot_set stands o k.log s.homes s.views id v w at refl k.slot;
         },
         (k.drawn, ap (λ (ws : List ℕ). slice_index ws 1) k.words, refl),
       )
 
-module _ {O E R M : Type 0} (stands : O → List (E × R) → M → Type 0) (o : O) (st : Step (Option (Held M))) (id : ℕ) (v : View O E R) (t : ℕ) (drew : v.ticket ≡ Some t) (free : v.holds ≡ false) (s : State (Option (Held M)) (View O E R)) (k : Kept stands o s) (at : get_elem? s.views id ≡ some v) where
+module _ {O E R M : Type 0} (stands : O → List (E × R) → M → Type 0) (o : O) (id : ℕ) (v : View O E R) (t : ℕ) (drew : v.ticket ≡ Some t) (free : v.holds ≡ false) (s : State (Option (Held M)) (View O E R)) (k : Kept stands o s) (at : get_elem? s.views id ≡ some v) where
   -- how a look ends: with a view and an act that keep the rule
   abbrev LookEnds : Type 0
-  LookEnds = (w : View O E R) × (a : Act (Option (Held M))) × Valid s.homes [] a × Kept stands o (stepped s 2 (slice_index s.words 2) id [] w a) × Looked stands st (v, []) (slice_index s.words 2) (w, carried_after [] a)
+  LookEnds = (w : View O E R) × (a : Act (Option (Held M))) × Valid s.homes [] a × Kept stands o (stepped s 2 (slice_index s.words 2) id [] w a) × Looked stands (v, []) (slice_index s.words 2) (w, carried_after [] a)
 
   look_words : slice_set s.words 2 (slice_index s.words 2) ≡ length k.log % 18446744073709551616 ∷ k.drawn % 18446744073709551616 ∷ k.served % 18446744073709551616 ∷ []
   look_words = ap (λ (ws : List ℕ). slice_set ws 2 (slice_index ws 2)) k.words
@@ -139,6 +141,7 @@ module _ {O E R M : Type 0} (stands : O → List (E × R) → M → Type 0) (o :
             spent = mine.spent;
             before = prefix_then v.before v.seen k.log mine.before mine.seen;
             told = prefix_then v.told v.seen k.log mine.told mine.seen;
+            also = mine.also;
           };
           slot = inr record { home = ap (λ (hs : List (maybe.Option (Option (Held M)))). slice_set hs 0 none) h.home; id = id; view = w; at = set_there s.views id v w at; holds = refl };
         },
@@ -199,14 +202,14 @@ module _ {O E R M : Type 0} (stands : O → List (E × R) → M → Type 0) (o :
 
 module _ {O E R M : Type 0} (stands : O → List (E × R) → M → Type 0) (o : O) where
   -- the word is read, and where the ticket is served the machine is taken
-  pub looks : (st : Step (Option (Held M))) (id : ℕ) (v : View O E R) (t : ℕ) → v.ticket ≡ Some t → v.holds ≡ false
-      → Allows (Kept stands o) 1 id (v, []) 2 (λ n. n) (Looked stands st (v, []))
-  looks st id v t drew free s k slots at small = dite (ℕ_discrete k.served t) (look_turn stands o st id v t drew free s k at) (look_wait stands o st id v t drew free s k at)
+  pub looks : (id : ℕ) (v : View O E R) (t : ℕ) → v.ticket ≡ Some t → v.holds ≡ false
+      → Allows (Kept stands o) 1 id (v, []) 2 (λ n. n) (Looked stands (v, []))
+  looks id v t drew free s k slots at small = dite (ℕ_discrete k.served t) (look_turn stands o id v t drew free s k at) (look_wait stands o id v t drew free s k at)
 
   -- the history has one entry more, and the place is this seat's
-  pub counts : (st : Step (Option (Held M))) (id : ℕ) (v : View O E R) (c : List (ℕ × Option (Held M))) (entry : Option (E × R)) (e : E × R) → entry ≡ Some e → v.holds ≡ true
-      → Allows (Kept stands o) 1 id (v, c) 0 (λ n. (n + 1) % 2 ^ 64) (Counted entry st (v, c))
-  counts st id v c entry e is holds s k slots at small =
+  pub counts : (id : ℕ) (v : View O E R) (c : List (ℕ × Option (Held M))) (entry : Option (E × R)) (e : E × R) → entry ≡ Some e → v.holds ≡ true
+      → Allows (Kept stands o) 1 id (v, c) 0 (λ n. (n + 1) % 2 ^ 64) (Counted entry (v, c))
+  counts id v c entry e is holds s k slots at small =
       let mine = k.each id v at in
       let held = mine.holder holds in
       let w = acted v e in
@@ -253,6 +256,7 @@ module _ {O E R M : Type 0} (stands : O → List (E × R) → M → Type 0) (o :
                 spent = f.spent;
                 before = f.before;
                 told = f.told;
+                also = f.also;
               })
               k.each
               record {
@@ -264,6 +268,7 @@ module _ {O E R M : Type 0} (stands : O → List (E × R) → M → Type 0) (o :
                 spent = λ none. let p = (mine.ticket k.served held.0).3 in absurd (omega arith);
                 before = prefix_then v.before v.seen (v.seen ++ e ∷ []) mine.before goes_on;
                 told = prefix_then v.told v.seen (v.seen ++ e ∷ []) mine.told goes_on;
+                also = mine.also;
               };
           slot = ⊎_elim
               (λ (h : AtHome stands o k.log s.homes s.views). off (sym (h.free id v at) ∙ holds))
@@ -279,9 +284,9 @@ module _ {O E R M : Type 0} (stands : O → List (E × R) → M → Type 0) (o :
       entry_is a b e = cc
 
   -- the machine is back in its slot, and the next ticket is served
-  pub serves : (st : Step (Option (Held M))) (id : ℕ) (v : View O E R) (h : Held M) → v.holds ≡ true → ((x : O) → v.opening ≡ Some x → stands x v.seen h.machine) → h.entries ≡ capped (length v.seen)
-      → Allows (Kept stands o) 1 id (v, (0, Some h) ∷ []) 2 (λ n. (n + 1) % 2 ^ 64) (Served st (v, (0, Some h) ∷ []))
-  serves st id v h holds stands_for entries s k slots at small =
+  pub serves : (id : ℕ) (v : View O E R) (h : Held M) → v.holds ≡ true → ((x : O) → v.opening ≡ Some x → stands x v.seen h.machine) → h.entries ≡ capped (length v.seen)
+      → Allows (Kept stands o) 1 id (v, (0, Some h) ∷ []) 2 (λ n. (n + 1) % 2 ^ 64) (Served (v, (0, Some h) ∷ []))
+  serves id v h holds stands_for entries s k slots at small =
       let mine = k.each id v at in
       let held = mine.holder holds in
       let w = leaving v in
@@ -317,6 +322,7 @@ module _ {O E R M : Type 0} (stands : O → List (E × R) → M → Type 0) (o :
                 spent = f.spent;
                 before = f.before;
                 told = f.told;
+                also = f.also;
               })
               k.each
               record {
@@ -328,6 +334,7 @@ module _ {O E R M : Type 0} (stands : O → List (E × R) → M → Type 0) (o :
                 spent = mine.spent;
                 before = mine.before;
                 told = mine.told;
+                also = mine.also;
               };
           slot = inl record {
             held = h;

@@ -29,6 +29,7 @@ module _ {O E R : Type 0} where
     pub spent : v.parts ≡ 0 → v.own ≡ []
     pub before : IsPrefix v.before v.seen
     pub told : IsPrefix v.told v.seen
+    pub also : (x : O) → v.also ≡ Some x → v.opening ≡ Some x
 
 module _ {O E R M : Type 0} (stands : O → List (E × R) → M → Type 0) (o : O) (log : List (E × R)) (homes : List (maybe.Option (Option (Held M)))) (views : List (View O E R)) where
   -- the machine is in its slot and stands for the history, and no seat holds it

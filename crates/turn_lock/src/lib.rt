@@ -3,6 +3,7 @@
 //! legal after those before it, and each seat's own acts once.
 #![tactic(auto)]
 
+mod calls;
 pub mod machine;
 pub mod seat;
 pub mod shared;

@@ -31,7 +31,7 @@ impl<M: Machine> TableRule<Option<Held<M>>, ViewOf<M>, Snapshot<M>> for Turns<M>
 pub(crate) struct Draw;
 
 impl<O, E, R, M> Play<Option<Held<M>>, View<O, E, R>> for Draw {
-    ghost then = { Drew };
+    ghost then = { λ _. Drew };
 }
 
 /// The kind "look": whether the ticket is served.
@@ -40,7 +40,7 @@ pub(crate) struct Look<M> {
 }
 
 impl<M: Machine> Play<Option<Held<M>>, ViewOf<M>> for Look<M> {
-    ghost then = { Looked M.stands };
+    ghost then = { λ _. Looked M.stands };
 }
 
 /// The entry that a step counts. A call at `Brand` picks it.
@@ -58,14 +58,14 @@ pub(crate) struct Count<J> {
 }
 
 impl<O, E, R, M, J: Entered<E, R>> Play<Option<Held<M>>, View<O, E, R>> for Count<J> {
-    ghost then = { Counted J.entry };
+    ghost then = { λ _. Counted J.entry };
 }
 
 /// The kind "serve": one more ticket is served.
 pub(crate) struct Serve;
 
 impl<O, E, R, M> Play<Option<Held<M>>, View<O, E, R>> for Serve {
-    ghost then = { Served };
+    ghost then = { λ _. Served };
 }
 
 /// The parts that a split gives away. A call at `Brand` picks them.
@@ -101,5 +101,5 @@ impl<O, E, R> Join<View<O, E, R>> for Both {
 pub(crate) struct Settle;
 
 impl<O, E, R, M> Play<Option<Held<M>>, View<O, E, R>> for Settle {
-    ghost then = { Settled };
+    ghost then = { λ _. Settled };
 }

@@ -19,4 +19,6 @@ pub struct View<O, E, R> {
     /// What each of two seats had seen when they were joined.
     pub before: LinkedList<(E, R)>,
     pub told: LinkedList<(E, R)>,
+    /// The opening of the second of them.
+    pub also: Option<O>,
 }

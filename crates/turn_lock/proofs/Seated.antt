@@ -1,11 +1,12 @@
 -- What a seat is after its calls, told of the views at the table.
 use Rattle.std.proofs.Common.{◌≡◌, ◌≢◌, ◌⊎◌, ℕ, ◌+◌, ◌%◌, ◌<◌, ◌≤◌, ◌==◌, Bool, true, false, true≢false, List, [], ◌∷◌, ◌++◌, length, Option, Some, None, MatchBool, refl, sym, ap, ◌∙◌, subst, ⊎_elim, arith, length-append, append-nil}
 use Rattle.atomic_table.specs.Table.{Me, rest}
+use Rattle.atomic_table.specs.Seated.{TableId}
 use Rattle.turn_lock.specs.declared.view.View.{View}
 use Rattle.turn_lock.specs.declared.view.Held.{Held}
 use Rattle.turn_lock.specs.Places.{IsPrefix, RisesFrom, longer, capped, upto}
 use Rattle.turn_lock.specs.Steps.{newcomer, drawing, taking, acted, leaving, joined, settled, Took, Looked, Settled, HasTurn, HoldsMachine}
-use Rattle.turn_lock.specs.Seats.{Opened, IsSeated}
+use Rattle.turn_lock.specs.Seats.{SeatView, seat_view, Opened, IsSeated, Adds, Sees}
 use Rattle.turn_lock.proofs.Lists.{prefix_length, longer_is, rises_more, rises_push}
 use Rattle.turn_lock.proofs.Slots.{same_number, other_number}
 
@@ -29,8 +30,37 @@ module _ {S : Type 0} where
   pub out_is : (l : List (ℕ × S)) (x : S) → l ≡ (0, x) ∷ [] → l ≡ (0, x) ∷ rest l
   out_is l x e = e ∙ ap (λ (k : List (ℕ × S)). (0, x) ∷ k) (sym (ap rest e))
 
-  pub same_out : (l : List (ℕ × S)) (x y : S) → l ≡ (0, x) ∷ [] → l ≡ (0, y) ∷ rest l → x ≡ y
-  same_out l x y e f = let g : (0, x) ∷ [] ≡ (0, y) ∷ rest l = sym e ∙ f in cc
+  value_or : S → List (ℕ × S) → S
+  value_or d [] = d
+  value_or d (x ∷ xs) = x.1
+
+  same_out : (l : List (ℕ × S)) (x y : S) → l ≡ (0, x) ∷ [] → l ≡ (0, y) ∷ rest l → x ≡ y
+  unfolding value_or
+  same_out l x y e f = ap (value_or x) (sym e ∙ f)
+
+module _ {O E R M : Type 0} (stands : O → List (E × R) → M → Type 0) (v : View O E R) (l : List (ℕ × Option (Held M))) (y : Option (Held M)) (turn : (h : Held M) × (l ≡ (0, Some h) ∷ []) × HoldsMachine stands v h.machine h.entries) (out : l ≡ (0, y) ∷ rest l) where
+  -- what was out with the seat is the machine
+  pub held_is : (held : Held M) → y ≡ Some held → HoldsMachine stands v held.machine held.entries
+  held_is held is =
+      let e : Some turn.0 ≡ y = same_out l (Some turn.0) y turn.1 out in
+      let same : turn.0 ≡ held = let f : Some turn.0 ≡ Some held = e ∙ is in cc in
+      subst (λ (h : Held M). HoldsMachine stands v h.machine h.entries) same turn.2
+
+  pub never_none : y ≡ None → ⊥
+  never_none is = let e : Some turn.0 ≡ y = same_out l (Some turn.0) y turn.1 out in cc
+
+module _ {O E R : Type 0} (legal : O → List (E × R) → Type 0) where
+  longer_legal : (o : O) (xs ys : List (E × R)) → legal o xs → legal o ys → legal o (longer xs ys)
+  longer_legal o xs ys l l' = ⊎_elim
+      (λ (t : (length xs < length ys) × (longer xs ys ≡ ys)). subst (legal o) (sym t.1) l')
+      (λ (t : (length ys ≤ length xs) × (longer xs ys ≡ xs)). subst (legal o) (sym t.1) l)
+      (longer_is xs ys)
+
+some_is : {O : Type 0} (c d : O) → Some c ≡ Some d → d ≡ c
+some_is c d e = cc
+
+opened_same : {O : Type 0} (o x : O) (a b : Option O) → b ≡ Some o → a ≡ Some x → ((y : O) → a ≡ Some y → b ≡ Some y) → x ≡ o
+opened_same o x a b p q both = some_is o x (sym p ∙ both x q)
 
 module _ {O E R S : Type 0} (legal : O → List (E × R) → Type 0) where
   pub first_seated : (o : O) (me : Me S (View O E R)) → me ≡ (newcomer (Some o) [] 9223372036854775808, []) → legal o [] → IsSeated legal me 9223372036854775808
@@ -42,18 +72,6 @@ module _ {O E R S : Type 0} (legal : O → List (E × R) → Type 0) where
     rising = tt;
     legally = (o, refl, l);
   }
-
-  longer_legal : (o : O) (xs ys : List (E × R)) → legal o xs → legal o ys → legal o (longer xs ys)
-  longer_legal o xs ys l l' = ⊎_elim
-      (λ (t : (length xs < length ys) × (longer xs ys ≡ ys)). subst (legal o) (sym t.1) l')
-      (λ (t : (length ys ≤ length xs) × (longer xs ys ≡ xs)). subst (legal o) (sym t.1) l)
-      (longer_is xs ys)
-
-  opened_same : (o x : O) (a b : Option O) → b ≡ Some o → a ≡ Some x → ((y : O) → a ≡ Some y → b ≡ Some y) → x ≡ o
-  opened_same o x a b p q both = let r = both x q in some_is o x (sym p ∙ r)
-    where
-      some_is : (c d : O) → Some c ≡ Some d → d ≡ c
-      some_is c d e = cc
 
   -- two seats in one
   pub joined_seated : (me me' m1 m2 : Me S (View O E R)) (p p' found : ℕ) → IsSeated legal me p → IsSeated legal me' p' → m1 ≡ (joined me.0 me'.0, me.1) → Settled m1 found m2 → IsSeated legal m2 (p + p')
@@ -73,7 +91,7 @@ module _ {O E R S : Type 0} (legal : O → List (E × R) → Type 0) where
         some_part = omega arith;
         no_more = omega arith;
         rising = s.4;
-        legally = (l.0, l.1, longer_legal l.0 me.0.seen me'.0.seen l.2 (subst (λ (o : O). legal o me'.0.seen) same l'.2));
+        legally = (l.0, l.1, longer_legal legal l.0 me.0.seen me'.0.seen l.2 (subst (λ (o : O). legal o me'.0.seen) same l'.2));
       }
 
   pub joined_is : (me me' m1 m2 : Me S (View O E R)) (found : ℕ) → m1 ≡ (joined me.0 me'.0, me.1) → Settled m1 found m2
@@ -134,3 +152,52 @@ module _ {O E R M : Type 0} (stands : O → List (E × R) → M → Type 0) (leg
         rising = rises_more 0 me.0.own (length me.0.seen) (length log) (prefix_length me.0.seen log h.1.grows) i.rising;
         legally = (l.0, l.1, law);
       }
+
+  -- what the seat gained by an entry
+  pub acted_adds : {X : Type 0} (e : E × R) → m2 ≡ (leaving (acted m1.0 e), []) → (old : SeatView O E R X) (id id' : TableId) (r r' : ℕ) (l l' : Option X) → seat_view id me.0 p r l ≡ old → Adds legal old e (seat_view id' m2.0 p r' l')
+  acted_adds {X} e now old id id' r r' l l' is =
+      let after = acted_is e now in
+      let opened = i.legally in
+      let was : seat_view id me.0 p r l ≡ old = is in
+      record {
+        log = h.1.log;
+        grows = subst (λ (s : SeatView O E R X). IsPrefix s.seen h.1.log) was h.1.grows;
+        seen = ap (λ (x : Me (Option (Held M)) (View O E R)). x.0.seen) after;
+        own = ap (λ (x : Me (Option (Held M)) (View O E R)). x.0.own) after ∙ ap (λ (s : SeatView O E R X). s.own ++ (length h.1.log + 1) ∷ []) was;
+        legally = (acted_seated e now).legally;
+      }
+
+  -- what the seat saw by a refusal
+  pub refused_sees : {X : Type 0} (tells : O → List (E × R) → Type 0) → m2 ≡ (leaving m1.0, []) → ((o : O) → m1.0.opening ≡ Some o → tells o m1.0.seen) → (old : SeatView O E R X) (id id' : TableId) (r r' : ℕ) (l l' : Option X) → seat_view id me.0 p r l ≡ old
+      → Sees (λ o log. legal o log × tells o log) old (seat_view id' m2.0 p r' l')
+  refused_sees {X} tells now told old id id' r r' l l' is =
+      let after = refused_is now in
+      let opened = i.legally in
+      let seated = (refused_seated now).legally in
+      let first : me.0.opening ≡ m1.0.opening = sym (ap (λ (x : Me (Option (Held M)) (View O E R)). x.0.opening) h.1.now) in
+      let seen : m1.0.seen ≡ m2.0.seen = ap (λ (x : Me (Option (Held M)) (View O E R)). x.0.seen) (sym now) in
+      let start : m2.0.opening ≡ me.0.opening = ap (λ (x : Me (Option (Held M)) (View O E R)). x.0.opening) after in
+      record {
+        grows = subst (λ (s : SeatView O E R X). IsPrefix s.seen m2.0.seen) is (subst (IsPrefix me.0.seen) (sym (ap (λ (x : Me (Option (Held M)) (View O E R)). x.0.seen) after)) h.1.grows);
+        own = ap (λ (x : Me (Option (Held M)) (View O E R)). x.0.own) after ∙ ap (λ (s : SeatView O E R X). s.own) is;
+        told = (seated.0, seated.1, (seated.2, subst (tells seated.0) seen (told seated.0 (sym first ∙ sym start ∙ seated.1))));
+      }
+
+module _ {O E R M : Type 0} (stands : O → List (E × R) → M → Type 0) (legal : O → List (E × R) → Type 0) (me m1 : Me (Option (Held M)) (View O E R)) (p : ℕ) (i : IsSeated legal me p) (h : HasTurn stands me.0 m1) (all : p ≡ 9223372036854775808) where
+  whole_seat : (me.0.seen ≡ h.1.log) × (me.0.own ≡ upto 0 (length h.1.log))
+  whole_seat = h.1.whole (i.parts_are ∙ all)
+
+  closed_seen : m1.0.seen ≡ me.0.seen
+  closed_seen = ap (λ (x : Me (Option (Held M)) (View O E R)). x.0.seen) h.1.now ∙ sym whole_seat.0
+
+  pub closed_stands : {X : Type 0} (machine : M) (entries : ℕ) → HoldsMachine stands m1.0 machine entries → (old : SeatView O E R X) (id : TableId) (r : ℕ) (l : Option X) → seat_view id me.0 p r l ≡ old → Opened old.opening (λ o. stands o old.seen machine)
+  closed_stands {X} machine entries held old id r l is =
+      let l = i.legally in
+      let first : m1.0.opening ≡ me.0.opening = ap (λ (x : Me (Option (Held M)) (View O E R)). x.0.opening) h.1.now in
+      subst (λ (s : SeatView O E R X). Opened s.opening (λ o. stands o s.seen machine)) is (l.0, l.1, subst (λ (log : List (E × R)). stands l.0 log machine) closed_seen (held.stands_for l.0 (first ∙ l.1)))
+
+  pub closed_entries : {X : Type 0} (machine : M) (entries : ℕ) → HoldsMachine stands m1.0 machine entries → (old : SeatView O E R X) (id : TableId) (r : ℕ) (l : Option X) → seat_view id me.0 p r l ≡ old → entries ≡ capped (length old.seen)
+  closed_entries {X} machine entries held old id r l is = held.entries_are ∙ ap (λ (log : List (E × R)). capped (length log)) closed_seen ∙ ap (λ (s : SeatView O E R X). capped (length s.seen)) is
+
+  pub closed_own : {X : Type 0} (old : SeatView O E R X) (id : TableId) (r : ℕ) (l : Option X) → seat_view id me.0 p r l ≡ old → old.own ≡ upto 0 (length old.seen)
+  closed_own {X} old id r l is = subst (λ (s : SeatView O E R X). s.own ≡ upto 0 (length s.seen)) is (whole_seat.1 ∙ ap (λ (log : List (E × R)). upto 0 (length log)) (sym whole_seat.0))

@@ -78,10 +78,11 @@ impl<M: Machine> Shared<M> {
         match self.turn(&mut seat.place, event) {
             Ok(reply) => Ok(reply),
             Err(refused) => {
-                if !M::is_memory(&refused) {
-                    seat.refusals = seat.refusals.saturating_add(1);
-                    seat.last = Some(refused);
+                if M::is_memory(&refused) {
+                    return Err(refused);
                 }
+                seat.refusals = seat.refusals.saturating_add(1);
+                seat.last = Some(refused);
                 Err(refused)
             }
         }

@@ -28,4 +28,7 @@ load-requires g c =
     )
 
 pub invariant_of-seat : goal.invariant_of-seat
-invariant_of-seat g c = joined_seated g.M.Machine.legal _ _ _ _ _ _ _ c.seat.invariant c.other.invariant c.join_seat.ensures.2 c.load.ensures.2
+invariant_of-seat g c = joined_seated g.M.Machine.legal _ _ _ _ _ _ c.load.result c.seat.invariant c.other.invariant c.join_seat.ensures.2 c.load.ensures.2
+
+pub returns-clause-legally : goal.returns-clause-legally
+returns-clause-legally g c = (joined_seated g.M.Machine.legal _ _ _ _ _ _ c.load.result c.seat.invariant c.other.invariant c.join_seat.ensures.2 c.load.ensures.2).legally

@@ -17,4 +17,4 @@ pub invariant_of-result-in-Ok : goal.invariant_of-result-in-Ok
 invariant_of-result-in-Ok g c =
     let value = c.of-first.ensures in
     let law = g.met.M.Machine.stands_legally _ _ _ c.requires in
-    first_seated g.M.Machine.legal (g.M.Machine.opening c.of-first.result.value) _ (c.in-Ok.ensures tt).ok.4 (subst (λ m. g.M.Machine.legal (g.M.Machine.opening m) []) (sym value) law)
+    first_seated g.M.Machine.legal (g.M.Machine.opening c.of-first.result.value) _ c.in-Ok.ensures.ok.4 (subst (λ m. g.M.Machine.legal (g.M.Machine.opening m) []) (sym value) law)

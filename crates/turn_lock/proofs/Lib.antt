@@ -5,3 +5,4 @@ pub mod Turning
 pub mod Meeting
 pub mod Asked
 pub mod Seated
+pub mod Gains

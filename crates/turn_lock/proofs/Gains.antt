@@ -81,6 +81,7 @@ module _ {A : Type 0} (Q : A → Type 0) where
     where
       split : times p rest ≡ one_if are.0 p + times p are.1
       split = ap (times p) are.2
+
       cases : Dec (are.0 ≡ p) → (0 < times p are.1 → (x : A) × IsAt log p x × Q x) → (x : A) × IsAt log p x × Q x
       cases (yes same) more = (e, subst (λ (q : ℕ). IsAt log q e) same are.3, all 0 e (omega arith))
       cases (no apart) more = let s = split in let z = one_if_other are.0 p apart in more (omega arith)
@@ -104,19 +105,19 @@ module _ {O E R X : Type 0} (Q : E × R → Type 0) where
 
   pub grew_then : (v w u : SeatView O E R X) → Grew Q v w → Grew Q w u → Grew Q v u
   grew_then v w u a b = (
-      prefix_then v.seen w.seen u.seen a.0 b.0,
-      λ p h. ⊎_elim
-          (λ (was : 0 < times p w.own). ⊎_elim (λ (before : 0 < times p v.own). inl before) (λ (f : (e : E × R) × IsAt w.seen p e × Q e). inr (f.0, at_longer w.seen u.seen p f.0 b.0 f.1, f.2)) (a.1 p was))
-          (λ (f : (e : E × R) × IsAt u.seen p e × Q e). inr f)
-          (b.1 p h),
-    )
+    prefix_then v.seen w.seen u.seen a.0 b.0,
+    λ p h. ⊎_elim
+        (λ (was : 0 < times p w.own). ⊎_elim (λ (before : 0 < times p v.own). inl before) (λ (f : (e : E × R) × IsAt w.seen p e × Q e). inr (f.0, at_longer w.seen u.seen p f.0 b.0 f.1, f.2)) (a.1 p was))
+        (λ (f : (e : E × R) × IsAt u.seen p e × Q e). inr f)
+        (b.1 p h),
+  )
 
   -- an act whose entry is Q
   pub grew_act : (legal : O → List (E × R) → Type 0) (v w : SeatView O E R X) (e : E × R) → IsSameSeat v w → Adds legal v e w → Q e → Grew Q v w
   grew_act legal v w e same adds q = (
-      subst (IsPrefix v.seen) (sym adds.seen) (prefix_then v.seen adds.log (adds.log ++ e ∷ []) adds.grows (e ∷ [], refl)),
-      λ p h. cases p h (ℕ_discrete (length adds.log + 1) p),
-    )
+    subst (IsPrefix v.seen) (sym adds.seen) (prefix_then v.seen adds.log (adds.log ++ e ∷ []) adds.grows (e ∷ [], refl)),
+    λ p h. cases p h (ℕ_discrete (length adds.log + 1) p),
+  )
     where
       cases : (p : ℕ) → 0 < times p w.own → Dec (length adds.log + 1 ≡ p) → (0 < times p v.own) ⊎ ((x : E × R) × IsAt w.seen p x × Q x)
       cases p h (yes here) = inr (e, (adds.log, sym here, ([], append-nil (adds.log ++ e ∷ []) ∙ sym adds.seen)), q)

@@ -124,6 +124,7 @@ rises_with_place low p (x ∷ ps) high lt le none r = cases (λ above. rises_wit
         (λ (t : (x ≡ p) × (one_if x p ≡ 1)). let e = t.1 in let k : one_if x p + times p ps ≡ 0 = none in absurd (omega arith))
         (λ (t : (x ≢ p) × (one_if x p ≡ 0)). t.0 h)
         (once x p)
+
     cases : (x < p → RisesFrom x (with_place p ps) high) → (b : Bool) → nat_lt p x ≡ b → RisesFrom low (if b then p ∷ x ∷ ps else x ∷ with_place p ps) high
     cases rest true e = (lt, le, (grind (arith, nat_tests), r.1, r.2))
     cases rest false e = (r.0, r.1, rest (let n = apart in let no : p < x → ⊥ = (λ l. grind (arith, nat_tests)) in omega arith))
@@ -147,16 +148,16 @@ whole_rising low (suc n) high (q ∷ qs) e r all =
     let lt : low < q = r.0 in
     let here : 0 < one_if q (suc low) + times (suc low) qs = all (suc low) (omega arith) (omega arith) in
     let is : q ≡ suc low =
-        ⊎_elim
-        (λ (t : (q ≡ suc low) × (one_if q (suc low) ≡ 1)). t.0)
-        (λ (t : (q ≢ suc low) × (one_if q (suc low) ≡ 0)).
-            let no = t.1 in let zero_rest = times_below q qs high (suc low) r.2 (omega arith) in absurd (omega arith))
-        (once q (suc low)) in
+    ⊎_elim
+    (λ (t : (q ≡ suc low) × (one_if q (suc low) ≡ 1)). t.0)
+    (λ (t : (q ≢ suc low) × (one_if q (suc low) ≡ 0)).
+    let no = t.1 in let zero_rest = times_below q qs high (suc low) r.2 (omega arith) in absurd (omega arith))
+    (once q (suc low)) in
     let more : (p : ℕ) → suc low < p → p ≤ high → 0 < times p qs =
-        λ p lt le.
-            ⊎_elim
-            (λ (t : (q ≡ p) × (one_if q p ≡ 1)). let s : q ≡ p = t.0 in absurd (omega arith))
-            (λ (t : (q ≢ p) × (one_if q p ≡ 0)). let s = t.1 in let h : 0 < one_if q p + times p qs = all p (omega arith) le in omega arith)
-            (once q p) in
+    λ p lt le.
+    ⊎_elim
+    (λ (t : (q ≡ p) × (one_if q p ≡ 1)). let s : q ≡ p = t.0 in absurd (omega arith))
+    (λ (t : (q ≢ p) × (one_if q p ≡ 0)). let s = t.1 in let h : 0 < one_if q p + times p qs = all p (omega arith) le in omega arith)
+    (once q p) in
     let rest : RisesFrom (suc low) qs high = subst (λ (x : ℕ). RisesFrom x qs high) is r.2 in
     λ i. is i ∷ whole_rising (suc low) n high qs (omega arith) rest more i

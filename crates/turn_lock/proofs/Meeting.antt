@@ -44,6 +44,7 @@ module _ {O E R M : Type 0} (stands : O → List (E × R) → M → Type 0) (o :
     where
       first : View O E R
       first = newcomer (Some o) [] 9223372036854775808
+
       fits : (id : ℕ) → Fits o [] 0 0 (λ _. 0) id first
       fits id = record {
         opening = λ _. refl;
@@ -56,9 +57,11 @@ module _ {O E R M : Type 0} (stands : O → List (E × R) → M → Type 0) (o :
         told = ([], refl);
         also = λ x e. absurd (no_opening x e);
       }
+
       one : (id : ℕ) (v : View O E R) → get_elem? (first ∷ []) id ≡ some v → Fits o [] 0 0 (λ _. 0) id v
       one zero v e = subst (Fits o [] 0 0 (λ _. 0) 0) (some-injective first v e) (fits 0)
       one (suc id) v e = absurd (some-ne-none v (sym e))
+
       free : (id : ℕ) (v : View O E R) → get_elem? (first ∷ []) id ≡ some v → v.holds ≡ false
       free zero v e = ap (λ (u : View O E R). u.holds) (sym (some-injective first v e))
       free (suc id) v e = absurd (some-ne-none v (sym e))
@@ -162,6 +165,7 @@ module _ {O E R M : Type 0} (stands : O → List (E × R) → M → Type 0) (o :
       within p top vs ws m n r r' le le' inside (no low) d = let h : 1 ≤ p → ⊥ = low in let a = times_below 0 vs m p r (omega arith) in let b = times_below 0 ws n p r' (omega arith) in omega arith
       within p top vs ws m n r r' le le' inside (yes up) (yes down) = let h = inside (omega arith) down in omega arith
       within p top vs ws m n r r' le le' inside (yes up) (no over) = let h : p ≤ top → ⊥ = over in let a = times_above 0 vs m p r (omega arith) in let b = times_above 0 ws n p r' (omega arith) in omega arith
+
       once_each : RisesFrom 0 v.own (length v.seen) → RisesFrom 0 w.own (length w.seen) → length v.seen ≤ length k.log → length w.seen ≤ length k.log → ((p : ℕ) → 0 < p → p ≤ length k.log → times p v.own + times p w.own ≤ 1) → (p : ℕ) → times p v.own + times p w.own ≤ 1
       once_each r r' le le' inside p = within p (length k.log) v.own w.own (length v.seen) (length w.seen) r r' le le' (inside p) (dec_le 1 p) (dec_le p (length k.log))
 
@@ -169,8 +173,7 @@ module _ {O E R M : Type 0} (stands : O → List (E × R) → M → Type 0) (o :
   pub settles : (id : ℕ) (v : View O E R) (c : List (ℕ × Option (Held M))) → Allows (Kept stands o) 1 id (v, c) 0 (λ n. n) (Settled (v, c))
   settles id v c s k slots at small =
       let mine = k.each id v at in
-      let w = settled v in
-      (
+      let w = settled v in (
         w,
         keeps,
         tt,

@@ -10,44 +10,10 @@ use Rattle.turn_lock.specs.Seats.{SeatView, seat_view, Opened, IsSeated, Adds, S
 use Rattle.turn_lock.proofs.Lists.{prefix_length, longer_is, rises_more, rises_push}
 use Rattle.turn_lock.proofs.Slots.{same_number, other_number}
 
-matched : (b : Bool) (P Q : Type 0) → b ≡ true → MatchBool b P Q → P
-matched true P Q e p = p
-matched false P Q e p = absurd (true≢false (sym e))
-
-unmatched : (b : Bool) (P Q : Type 0) → b ≡ false → MatchBool b P Q → Q
-unmatched true P Q e q = absurd (true≢false e)
-unmatched false P Q e q = q
-
-module _ {O E R M : Type 0} (stands : O → List (E × R) → M → Type 0) (m m' : Me (Option (Held M)) (View O E R)) (found t : ℕ) where
-  pub took_of : Looked stands m found m' → m.0.ticket ≡ Some t → found ≡ t % 18446744073709551616 → Took stands m m'
-  took_of look drew e = matched (found == t % 18446744073709551616) _ _ (same_number found (t % 18446744073709551616) e) (look t drew)
-
-  pub stayed_of : Looked stands m found m' → m.0.ticket ≡ Some t → found ≢ t % 18446744073709551616 → m' ≡ m
-  stayed_of look drew n = unmatched (found == t % 18446744073709551616) _ _ (other_number found (t % 18446744073709551616) n) (look t drew)
-
 module _ {S : Type 0} where
   -- the slot that is out with a seat is read by an exchange
   pub out_is : (l : List (ℕ × S)) (x : S) → l ≡ (0, x) ∷ [] → l ≡ (0, x) ∷ rest l
   out_is l x e = e ∙ ap (λ (k : List (ℕ × S)). (0, x) ∷ k) (sym (ap rest e))
-
-  value_or : S → List (ℕ × S) → S
-  value_or d [] = d
-  value_or d (x ∷ xs) = x.1
-
-  same_out : (l : List (ℕ × S)) (x y : S) → l ≡ (0, x) ∷ [] → l ≡ (0, y) ∷ rest l → x ≡ y
-  unfolding value_or
-  same_out l x y e f = ap (value_or x) (sym e ∙ f)
-
-module _ {O E R M : Type 0} (stands : O → List (E × R) → M → Type 0) (v : View O E R) (l : List (ℕ × Option (Held M))) (y : Option (Held M)) (turn : (h : Held M) × (l ≡ (0, Some h) ∷ []) × HoldsMachine stands v h.machine h.entries) (out : l ≡ (0, y) ∷ rest l) where
-  -- what was out with the seat is the machine
-  pub held_is : (held : Held M) → y ≡ Some held → HoldsMachine stands v held.machine held.entries
-  held_is held is =
-      let e : Some turn.0 ≡ y = same_out l (Some turn.0) y turn.1 out in
-      let same : turn.0 ≡ held = let f : Some turn.0 ≡ Some held = e ∙ is in cc in
-      subst (λ (h : Held M). HoldsMachine stands v h.machine h.entries) same turn.2
-
-  pub never_none : y ≡ None → ⊥
-  never_none is = let e : Some turn.0 ≡ y = same_out l (Some turn.0) y turn.1 out in cc
 
 module _ {O E R : Type 0} (legal : O → List (E × R) → Type 0) where
   longer_legal : (o : O) (xs ys : List (E × R)) → legal o xs → legal o ys → legal o (longer xs ys)
@@ -94,15 +60,7 @@ module _ {O E R S : Type 0} (legal : O → List (E × R) → Type 0) where
         legally = (l.0, l.1, longer_legal legal l.0 me.0.seen me'.0.seen l.2 (subst (λ (o : O). legal o me'.0.seen) same l'.2));
       }
 
-  pub joined_is : (me me' m1 m2 : Me S (View O E R)) (found : ℕ) → m1 ≡ (joined me.0 me'.0, me.1) → Settled m1 found m2
-      → (m2 ≡ (settled (joined me.0 me'.0), me.1)) × IsPrefix me.0.seen (longer me.0.seen me'.0.seen) × IsPrefix me'.0.seen (longer me.0.seen me'.0.seen) × (me.0.parts + me'.0.parts ≤ 9223372036854775808)
-  joined_is me me' m1 m2 found e told = let s = subst (λ (m : Me S (View O E R)). Settled m found m2) e told in (s.0, s.1, s.2, s.3)
-
 module _ {O E R M : Type 0} (stands : O → List (E × R) → M → Type 0) where
-  -- what the seat saw in its turn, and what it was before
-  pub turn_view : (v : View O E R) (m : Me (Option (Held M)) (View O E R)) (h : HasTurn stands v m) → m ≡ (taking (drawing v h.0) h.1.log, (0, Some h.1.held) ∷ [])
-  turn_view v m h = h.1.now
-
   -- in its turn a seat holds the machine
   pub turn_holds : (v : View O E R) (m : Me (Option (Held M)) (View O E R)) → HasTurn stands v m → (h : Held M) × (m.1 ≡ (0, Some h) ∷ []) × HoldsMachine stands m.0 h.machine h.entries
   turn_holds v m h =
@@ -152,52 +110,3 @@ module _ {O E R M : Type 0} (stands : O → List (E × R) → M → Type 0) (leg
         rising = rises_more 0 me.0.own (length me.0.seen) (length log) (prefix_length me.0.seen log h.1.grows) i.rising;
         legally = (l.0, l.1, law);
       }
-
-  -- what the seat gained by an entry
-  pub acted_adds : {X : Type 0} (e : E × R) → m2 ≡ (leaving (acted m1.0 e), []) → (old : SeatView O E R X) (id id' : TableId) (r r' : ℕ) (l l' : Option X) → seat_view id me.0 p r l ≡ old → Adds legal old e (seat_view id' m2.0 p r' l')
-  acted_adds {X} e now old id id' r r' l l' is =
-      let after = acted_is e now in
-      let opened = i.legally in
-      let was : seat_view id me.0 p r l ≡ old = is in
-      record {
-        log = h.1.log;
-        grows = subst (λ (s : SeatView O E R X). IsPrefix s.seen h.1.log) was h.1.grows;
-        seen = ap (λ (x : Me (Option (Held M)) (View O E R)). x.0.seen) after;
-        own = ap (λ (x : Me (Option (Held M)) (View O E R)). x.0.own) after ∙ ap (λ (s : SeatView O E R X). s.own ++ (length h.1.log + 1) ∷ []) was;
-        legally = (acted_seated e now).legally;
-      }
-
-  -- what the seat saw by a refusal
-  pub refused_sees : {X : Type 0} (tells : O → List (E × R) → Type 0) → m2 ≡ (leaving m1.0, []) → ((o : O) → m1.0.opening ≡ Some o → tells o m1.0.seen) → (old : SeatView O E R X) (id id' : TableId) (r r' : ℕ) (l l' : Option X) → seat_view id me.0 p r l ≡ old
-      → Sees (λ o log. legal o log × tells o log) old (seat_view id' m2.0 p r' l')
-  refused_sees {X} tells now told old id id' r r' l l' is =
-      let after = refused_is now in
-      let opened = i.legally in
-      let seated = (refused_seated now).legally in
-      let first : me.0.opening ≡ m1.0.opening = sym (ap (λ (x : Me (Option (Held M)) (View O E R)). x.0.opening) h.1.now) in
-      let seen : m1.0.seen ≡ m2.0.seen = ap (λ (x : Me (Option (Held M)) (View O E R)). x.0.seen) (sym now) in
-      let start : m2.0.opening ≡ me.0.opening = ap (λ (x : Me (Option (Held M)) (View O E R)). x.0.opening) after in
-      record {
-        grows = subst (λ (s : SeatView O E R X). IsPrefix s.seen m2.0.seen) is (subst (IsPrefix me.0.seen) (sym (ap (λ (x : Me (Option (Held M)) (View O E R)). x.0.seen) after)) h.1.grows);
-        own = ap (λ (x : Me (Option (Held M)) (View O E R)). x.0.own) after ∙ ap (λ (s : SeatView O E R X). s.own) is;
-        told = (seated.0, seated.1, (seated.2, subst (tells seated.0) seen (told seated.0 (sym first ∙ sym start ∙ seated.1))));
-      }
-
-module _ {O E R M : Type 0} (stands : O → List (E × R) → M → Type 0) (legal : O → List (E × R) → Type 0) (me m1 : Me (Option (Held M)) (View O E R)) (p : ℕ) (i : IsSeated legal me p) (h : HasTurn stands me.0 m1) (all : p ≡ 9223372036854775808) where
-  whole_seat : (me.0.seen ≡ h.1.log) × (me.0.own ≡ upto 0 (length h.1.log))
-  whole_seat = h.1.whole (i.parts_are ∙ all)
-
-  closed_seen : m1.0.seen ≡ me.0.seen
-  closed_seen = ap (λ (x : Me (Option (Held M)) (View O E R)). x.0.seen) h.1.now ∙ sym whole_seat.0
-
-  pub closed_stands : {X : Type 0} (machine : M) (entries : ℕ) → HoldsMachine stands m1.0 machine entries → (old : SeatView O E R X) (id : TableId) (r : ℕ) (l : Option X) → seat_view id me.0 p r l ≡ old → Opened old.opening (λ o. stands o old.seen machine)
-  closed_stands {X} machine entries held old id r l is =
-      let l = i.legally in
-      let first : m1.0.opening ≡ me.0.opening = ap (λ (x : Me (Option (Held M)) (View O E R)). x.0.opening) h.1.now in
-      subst (λ (s : SeatView O E R X). Opened s.opening (λ o. stands o s.seen machine)) is (l.0, l.1, subst (λ (log : List (E × R)). stands l.0 log machine) closed_seen (held.stands_for l.0 (first ∙ l.1)))
-
-  pub closed_entries : {X : Type 0} (machine : M) (entries : ℕ) → HoldsMachine stands m1.0 machine entries → (old : SeatView O E R X) (id : TableId) (r : ℕ) (l : Option X) → seat_view id me.0 p r l ≡ old → entries ≡ capped (length old.seen)
-  closed_entries {X} machine entries held old id r l is = held.entries_are ∙ ap (λ (log : List (E × R)). capped (length log)) closed_seen ∙ ap (λ (s : SeatView O E R X). capped (length s.seen)) is
-
-  pub closed_own : {X : Type 0} (old : SeatView O E R X) (id : TableId) (r : ℕ) (l : Option X) → seat_view id me.0 p r l ≡ old → old.own ≡ upto 0 (length old.seen)
-  closed_own {X} old id r l is = subst (λ (s : SeatView O E R X). s.own ≡ upto 0 (length s.seen)) is (whole_seat.1 ∙ ap (λ (log : List (E × R)). upto 0 (length log)) (sym whole_seat.0))

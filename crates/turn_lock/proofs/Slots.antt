@@ -52,7 +52,7 @@ module _ {O E R M : Type 0} (stands : O → List (E × R) → M → Type 0) (o :
   pub few_wait : k.drawn ≤ k.served + 9223372036854775808
   few_wait =
       let each : (i : ℕ) (v : View O E R) → get_elem? s.views i ≡ some v → waits v.ticket ≤ v.parts =
-          λ i v at. waiting_part v.ticket v.parts (λ t e. ((k.each i v at).ticket t e).3) in
+      λ i v at. waiting_part v.ticket v.parts (λ t e. ((k.each i v at).ticket t e).3) in
       let few = total_le (λ (v : View O E R). waits v.ticket) (λ v. v.parts) s.views each in
       let p = k.parts in let t = k.tickets in omega arith
 
@@ -75,11 +75,11 @@ module _ {O E R M : Type 0} (stands : O → List (E × R) → M → Type 0) (o :
         free = each_set (λ _ (u : View O E R). u.holds ≡ false) (λ _ (u : View O E R). u.holds ≡ false) views i w (λ j u n e p. p) h.free (same ∙ h.free i v at);
       })
       (λ (h : IsOut stands o log homes views). inr (dite (ℕ_discrete h.id i)
-          (λ is.
-              let here : h.view ≡ v = some-injective h.view v (sym h.at ∙ ap (λ (n : ℕ). get_elem? views n) is ∙ at) in
-              let held : w.holds ≡ true = same ∙ ap (λ (u : View O E R). u.holds) (sym here) ∙ h.holds in
-              record { home = h.home; id = i; view = w; at = set_there views i v w at; holds = held })
-          (λ apart. record { home = h.home; id = h.id; view = h.view; at = set_else views i h.id w apart ∙ h.at; holds = h.holds })))
+      (λ is.
+      let here : h.view ≡ v = some-injective h.view v (sym h.at ∙ ap (λ (n : ℕ). get_elem? views n) is ∙ at) in
+      let held : w.holds ≡ true = same ∙ ap (λ (u : View O E R). u.holds) (sym here) ∙ h.holds in
+      record { home = h.home; id = i; view = w; at = set_there views i v w at; holds = held })
+      (λ apart. record { home = h.home; id = h.id; view = h.view; at = set_else views i h.id w apart ∙ h.at; holds = h.holds })))
 
   -- a new seat comes, and holds nothing
   pub slot_snoc : (w : View O E R) → w.holds ≡ false → AtHome stands o log homes views ⊎ IsOut stands o log homes views → AtHome stands o log homes (views ++ w ∷ []) ⊎ IsOut stands o log homes (views ++ w ∷ [])

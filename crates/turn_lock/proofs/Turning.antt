@@ -30,8 +30,7 @@ module _ {O E R M : Type 0} (stands : O → List (E × R) → M → Type 0) (o :
   draws id v c some_part idle free s k slots at small =
       let w = drawing v k.drawn in
       let owner : ℕ → ℕ = λ t. cond (t == k.drawn) id (k.owner t) in
-      let mine = k.each id v at in
-      (
+      let mine = k.each id v at in (
         w,
         keeps,
         tt,
@@ -89,9 +88,9 @@ module _ {O E R M : Type 0} (stands : O → List (E × R) → M → Type 0) (o :
   machine_home served = ⊎_elim
       (λ h. h)
       (λ (h : IsOut stands o k.log s.homes s.views).
-          let is : h.id ≡ id = one_holds stands o s k id h.id v h.view at h.at (drew ∙ ap (λ (n : ℕ). Some n) (sym served)) h.holds in
-          let same : h.view ≡ v = some-injective h.view v (sym h.at ∙ ap (λ (n : ℕ). get_elem? s.views n) is ∙ at) in
-          off (sym free ∙ ap (λ (u : View O E R). u.holds) (sym same) ∙ h.holds))
+      let is : h.id ≡ id = one_holds stands o s k id h.id v h.view at h.at (drew ∙ ap (λ (n : ℕ). Some n) (sym served)) h.holds in
+      let same : h.view ≡ v = some-injective h.view v (sym h.at ∙ ap (λ (n : ℕ). get_elem? s.views n) is ∙ at) in
+      off (sym free ∙ ap (λ (u : View O E R). u.holds) (sym same) ∙ h.holds))
       k.slot
 
   -- a seat with all parts owns every place
@@ -99,11 +98,11 @@ module _ {O E R M : Type 0} (stands : O → List (E × R) → M → Type 0) (o :
   all_places all =
       let mine = k.each id v at in
       let alone : (j : ℕ) (u : View O E R) → j ≢ id → get_elem? s.views j ≡ some u → u.parts ≡ 0 =
-          λ j u apart there. let two = total_two (λ (x : View O E R). x.parts) s.views id j v u (λ h. apart (sym h)) at there in let p = k.parts in omega arith in
+      λ j u apart there. let two = total_two (λ (x : View O E R). x.parts) s.views id j v u (λ h. apart (sym h)) at there in let p = k.parts in omega arith in
       let owns : (p : ℕ) → 0 < p → p ≤ length k.log → times p v.own ≡ 1 =
-          λ p above below.
-              let one = total_one (λ (x : View O E R). times p x.own) s.views id v at (λ j u apart there. ap (times p) ((k.each j u there).spent (alone j u apart there))) in
-              let q = k.places p above below in omega arith in
+      λ p above below.
+      let one = total_one (λ (x : View O E R). times p x.own) s.views id v at (λ j u apart there. ap (times p) ((k.each j u there).spent (alone j u apart there))) in
+      let q = k.places p above below in omega arith in
       let rises : RisesFrom 0 v.own (length k.log) = rises_more 0 v.own (length v.seen) (length k.log) (prefix_length v.seen k.log mine.seen) mine.rising in
       let whole : v.own ≡ upto 0 (length k.log) = whole_rising 0 (length k.log) (length k.log) v.own (omega arith) rises (λ p above below. let q = owns p above below in omega arith) in
       let long : length k.log ≤ length v.seen = last_seen (length k.log) (dec_le (length k.log) (length v.seen)) (λ p above below over. let q = owns p above below in let z = times_above 0 v.own (length v.seen) p mine.rising over in omega arith) in
@@ -118,8 +117,7 @@ module _ {O E R M : Type 0} (stands : O → List (E × R) → M → Type 0) (o :
       let mine = k.each id v at in
       let h = machine_home served in
       let w = taking v k.log in
-      let more = prefix_length v.seen k.log mine.seen in
-      (
+      let more = prefix_length v.seen k.log mine.seen in (
         w,
         takes 0 (Some h.held),
         ap (λ (hs : List (maybe.Option (Option (Held M)))). get_elem? hs 0) h.home,
@@ -148,19 +146,19 @@ module _ {O E R M : Type 0} (stands : O → List (E × R) → M → Type 0) (o :
         λ u e.
             let is : k.served ≡ u = served ∙ ticket_is t u (sym drew ∙ e) in
             match_true (slice_index s.words 2 == u % 18446744073709551616) _ _
-                (same_number (slice_index s.words 2) (u % 18446744073709551616) (look_found ∙ ap (λ (n : ℕ). n % 18446744073709551616) is))
-                record {
-                  log = k.log;
-                  held = h.held;
-                  grows = mine.seen;
-                  now = refl;
-                  stands_for = λ x f.
-                      let p = (mine.ticket t drew).3 in
-                      let same : o ≡ x = let g = mine.opening p in opening_is o x (sym g ∙ f) in
-                      subst (λ (y : O). stands y k.log h.held.machine) same h.stands_for;
-                  entries = h.entries;
-                  whole = all_places;
-                },
+            (same_number (slice_index s.words 2) (u % 18446744073709551616) (look_found ∙ ap (λ (n : ℕ). n % 18446744073709551616) is))
+            record {
+              log = k.log;
+              held = h.held;
+              grows = mine.seen;
+              now = refl;
+              stands_for = λ x f.
+                  let p = (mine.ticket t drew).3 in
+                  let same : o ≡ x = let g = mine.opening p in opening_is o x (sym g ∙ f) in
+                  subst (λ (y : O). stands y k.log h.held.machine) same h.stands_for;
+              entries = h.entries;
+              whole = all_places;
+            },
       )
     where
       opening_is : (a b : O) → Some a ≡ Some b → a ≡ b
@@ -184,8 +182,7 @@ module _ {O E R M : Type 0} (stands : O → List (E × R) → M → Type 0) (o :
         places = k.places;
         each = k.each;
         slot = k.slot;
-      } in
-      (
+      } in (
         v,
         keeps,
         tt,
@@ -193,8 +190,8 @@ module _ {O E R M : Type 0} (stands : O → List (E × R) → M → Type 0) (o :
         λ u e.
             let is : t ≡ u = ticket_is t u (sym drew ∙ e) in
             match_false (slice_index s.words 2 == u % 18446744073709551616) _ _
-                (other_number (slice_index s.words 2) (u % 18446744073709551616) (λ same. differ (sym look_found ∙ same ∙ ap (λ (n : ℕ). n % 18446744073709551616) (sym is))))
-                refl,
+            (other_number (slice_index s.words 2) (u % 18446744073709551616) (λ same. differ (sym look_found ∙ same ∙ ap (λ (n : ℕ). n % 18446744073709551616) (sym is))))
+            refl,
       )
     where
       apart_words : (a b : ℕ) → a ≢ b → a ≤ b → b < a + 18446744073709551616 → a % 18446744073709551616 ≢ b % 18446744073709551616
@@ -218,8 +215,7 @@ module _ {O E R M : Type 0} (stands : O → List (E × R) → M → Type 0) (o :
       let seen : length v.seen ≡ length k.log = ap length held.1 in
       let longer : length (v.seen ++ e ∷ []) ≡ length v.seen + 1 = length-append v.seen (e ∷ []) in
       let more : IsPrefix k.log log = (e ∷ [], refl) in
-      let goes_on : IsPrefix v.seen (v.seen ++ e ∷ []) = (e ∷ [], refl) in
-      (
+      let goes_on : IsPrefix v.seen (v.seen ++ e ∷ []) = (e ∷ [], refl) in (
         w,
         keeps,
         tt,
@@ -235,17 +231,17 @@ module _ {O E R M : Type 0} (stands : O → List (E × R) → M → Type 0) (o :
               let t = total_set (λ (u : View O E R). times p u.own) s.views id v w at in
               let own = times-append p v.own ((length v.seen + 1) ∷ []) in
               dite (ℕ_discrete (length v.seen + 1) p)
-                  (λ same.
-                      let one : one_if (length v.seen + 1) p ≡ 1 = one_if_same (length v.seen + 1) p same in
-                      let zero_before = total_none (λ (u : View O E R). times p u.own) s.views (λ j u there.
-                          let f = k.each j u there in
-                          let short = prefix_length u.seen k.log f.seen in
-                          times_above 0 u.own (length u.seen) p f.rising (omega arith)) in
-                      omega arith)
-                  (λ apart.
-                      let none_more : one_if (length v.seen + 1) p ≡ 0 = one_if_other (length v.seen + 1) p apart in
-                      let q = k.places p a (let no : length v.seen + 1 ≢ p = apart in omega arith) in
-                      omega arith));
+              (λ same.
+              let one : one_if (length v.seen + 1) p ≡ 1 = one_if_same (length v.seen + 1) p same in
+              let zero_before = total_none (λ (u : View O E R). times p u.own) s.views (λ j u there.
+              let f = k.each j u there in
+              let short = prefix_length u.seen k.log f.seen in
+              times_above 0 u.own (length u.seen) p f.rising (omega arith)) in
+              omega arith)
+              (λ apart.
+              let none_more : one_if (length v.seen + 1) p ≡ 0 = one_if_other (length v.seen + 1) p apart in
+              let q = k.places p a (let no : length v.seen + 1 ≢ p = apart in omega arith) in
+              omega arith));
           each = each_set (Fits o k.log k.drawn k.served k.owner) (Fits o log k.drawn k.served k.owner) s.views id w
               (λ j u apart there f. record {
                 opening = f.opening;
@@ -280,6 +276,7 @@ module _ {O E R M : Type 0} (stands : O → List (E × R) → M → Type 0) (o :
     where
       next_word : (a b : ℕ) → b ≡ a + 1 → (a % 18446744073709551616 + 1) % 18446744073709551616 ≡ b % 18446744073709551616
       next_word a b e = omega arith
+
       entry_is : (a b : E × R) → Some a ≡ Some b → a ≡ b
       entry_is a b e = cc
 
@@ -292,10 +289,9 @@ module _ {O E R M : Type 0} (stands : O → List (E × R) → M → Type 0) (o :
       let w = leaving v in
       let some_part = (mine.ticket k.served held.0).3 in
       let out : s.homes ≡ none ∷ [] = ⊎_elim
-          (λ (x : AtHome stands o k.log s.homes s.views). off (sym (x.free id v at) ∙ holds))
-          (λ (x : IsOut stands o k.log s.homes s.views). x.home)
-          k.slot in
-      (
+      (λ (x : AtHome stands o k.log s.homes s.views). off (sym (x.free id v at) ∙ holds))
+      (λ (x : IsOut stands o k.log s.homes s.views). x.home)
+      k.slot in (
         w,
         gives,
         tt,

@@ -12,6 +12,7 @@ use crate::view::Held;
 use atomic_table::Table;
 use job_values::NoMemory;
 use std::alloc::Global;
+use std::hint;
 use std::marker::Brand;
 use std::snapshot::Snapshot;
 use std::sync::Wait;
@@ -21,8 +22,16 @@ const ALL_PARTS: u64 = 1 << 63;
 
 /// The words of the table: the entries of the history, the tickets drawn and those served.
 const ENTRIES: usize = 0;
+
 const DRAWN: usize = 1;
+
 const SERVED: usize = 2;
+
+/// A seat looks again and again where this many turns are left at most, and else sleeps.
+const NEAR: u64 = 1;
+
+/// How often it looks before it sleeps.
+const SPINS: u32 = 200;
 
 // The machine in a slot, with no entries. Want of memory drops it.
 fn one_slot<M: Machine>(alloc: Global, machine: M) -> Result<Vec<Option<Held<M>>>, NoMemory>
@@ -113,11 +122,24 @@ impl<M: Machine> Shared<M> {
             if served == ticket {
                 return;
             }
-            self.table
-                .shared
-                .park(rt, SERVED, (served & 0xffff_ffff) as u32);
+            if ticket.wrapping_sub(served) > NEAR || !self.moves_on(served) {
+                self.table
+                    .shared
+                    .park(rt, SERVED, (served & 0xffff_ffff) as u32);
+            }
         }
         unreachable!()
+    }
+
+    // Whether another ticket is served within a short while.
+    fn moves_on(&self, served: u64) -> bool {
+        for _ in 0..SPINS {
+            if self.table.shared.peek(SERVED) != served {
+                return true;
+            }
+            hint::spin_loop();
+        }
+        false
     }
 
     // Takes the machine out of the slot that the seat holds.
@@ -175,9 +197,7 @@ impl<M: Machine> Shared<M> {
     {
         let _ = event;
         let _ = reply;
-        self.table
-            .shared
-            .fetch_add::<Count<J>>(place, ENTRIES, 1);
+        self.table.shared.fetch_add::<Count<J>>(place, ENTRIES, 1);
     }
 
     // Puts the machine back, and serves the next ticket.
@@ -192,8 +212,10 @@ impl<M: Machine> Shared<M> {
             .table
             .shared
             .exchange(place, 0, Some(Held { machine, entries }));
-        self.table.shared.fetch_add::<Serve>(place, SERVED, 1);
-        self.table.shared.wake_all(SERVED);
+        let served = self.table.shared.fetch_add::<Serve>(place, SERVED, 1);
+        if self.table.shared.peek(DRAWN) != served.wrapping_add(1) {
+            self.table.shared.wake_all(SERVED);
+        }
     }
 
     /// Moves some of the seat's parts to a new seat, which has seen the same and has acted on

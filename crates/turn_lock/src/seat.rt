@@ -1,5 +1,5 @@
 //! A thread's seat at the lock.
-ghost use Rattle.std.specs.Prelude.{◌≡◌, ◌<◌, ◌≤◌};
+ghost use Rattle.std.specs.Prelude.{◌≡◌, ◌<◌, ◌≤◌, length};
 
 use crate::machine::Machine;
 use crate::steps::Place;
@@ -27,12 +27,14 @@ impl<M: Machine> Model for Seat<M> {
 }
 
 impl<M: Machine> Seat<M> {
+    ghost use Rattle.turn_lock.specs.Places.{RisesFrom};
     ghost use Rattle.turn_lock.specs.Seats.{IsLegalSeat};
 
     /// The parts of this seat, from 1 to 2^63.
     pub fn parts(&self) -> u64
         ensures value { result ≡ self.now.parts }
         ensures bounds { (0 < result) × (result ≤ 9223372036854775808) }
+        ensures rising { RisesFrom 0 self.now.own (length self.now.seen) }
         ensures legally { IsLegalSeat M.legal self.now }
     {
         self.parts

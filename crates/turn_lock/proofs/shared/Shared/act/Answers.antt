@@ -1,4 +1,4 @@
-use Rattle.turn_lock.proofs.Seated.{turn_holds, acted_seated, refused_seated, acted_adds, refused_sees}
+use Rattle.turn_lock.proofs.Seated.{turn_holds, acted_seated, refused_seated}
 use Rattle.turn_lock.proofs.shared.Shared.act.Goals as goal
 
 pub turn-requires-clause-turn : goal.turn-requires-clause-turn

@@ -1,4 +1,4 @@
-use Rattle.turn_lock.proofs.Seated.{turn_holds, closed_stands, closed_entries, closed_own}
+use Rattle.turn_lock.proofs.Seated.{turn_holds}
 use Rattle.turn_lock.proofs.shared.Shared.close.Goals as goal
 
 pub take_out-machine-requires-clause-turn : goal.take_out-machine-requires-clause-turn

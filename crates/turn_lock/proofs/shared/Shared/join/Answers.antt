@@ -7,8 +7,7 @@ use Rattle.turn_lock.proofs.shared.Shared.join.Goals as goal
 pub join_seat-requires : goal.join_seat-requires
 join_seat-requires g c =
     let i = c.seat.invariant in
-    let j = c.other.invariant in
-    (
+    let j = c.other.invariant in (
       ap (λ s. s.shared) c.seat.view_is ∙ c.requires.here ∙ sym c.self.view_is,
       ap (λ s. s.shared) c.other.view_is ∙ c.requires.other_here ∙ sym c.self.view_is,
       j.idle.0,
@@ -20,12 +19,11 @@ join_seat-requires g c =
     )
 
 pub load-requires : goal.load-requires
-load-requires g c =
-    (
-      c.join_seat.ensures.0 ∙ ap (λ s. s.shared) c.seat.view_is ∙ c.requires.here ∙ sym c.self.view_is,
-      (let w = c.self.invariant.0 in omega arith),
-      may_settle g.M.Machine.stands (g.M.Machine.opening c.self.inside.table.shared.key.value) _ c.self.invariant.1 _ _,
-    )
+load-requires g c = (
+  c.join_seat.ensures.0 ∙ ap (λ s. s.shared) c.seat.view_is ∙ c.requires.here ∙ sym c.self.view_is,
+  (let w = c.self.invariant.0 in omega arith),
+  may_settle g.M.Machine.stands (g.M.Machine.opening c.self.inside.table.shared.key.value) _ c.self.invariant.1 _ _,
+)
 
 pub invariant_of-seat : goal.invariant_of-seat
 invariant_of-seat g c = joined_seated g.M.Machine.legal _ _ _ _ _ _ c.load.result c.seat.invariant c.other.invariant c.join_seat.ensures.2 c.load.ensures.2

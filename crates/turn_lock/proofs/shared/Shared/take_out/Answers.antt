@@ -1,5 +1,5 @@
 use Rattle.std.proofs.Common.{sym, ◌∙◌, Some}
-use Rattle.turn_lock.proofs.Seated.{out_is, held_is, never_none}
+use Rattle.turn_lock.proofs.Seated.{out_is}
 use Rattle.turn_lock.proofs.shared.Shared.take_out.Goals as goal
 
 pub exchange-requires : goal.exchange-requires

@@ -1,10 +1,10 @@
 -- The laws of chains of calls, and of predicates on the entries that seats own.
-use Rattle.std.proofs.Common.{◌≡◌, ◌≢◌, ◌⊎◌, ℕ, zero, suc, ◌+◌, ◌-◌, ◌<◌, ◌≤◌, List, [], ◌∷◌, ◌++◌, length, refl, sym, ap, ◌∙◌, subst, inl, inr, ⊎_elim, append_assoc, append-nil, length-append, arith}
+use Rattle.std.proofs.Common.{◌≡◌, ◌⊎◌, ℕ, zero, suc, ◌+◌, ◌<◌, ◌≤◌, List, [], ◌∷◌, ◌++◌, length, refl, sym, ap, ◌∙◌, subst, inl, inr, ⊎_elim, append_assoc, append-nil, arith}
 use Rattle.std.specs.Prelude.{All, slice_index_or}
 use native.Mathlib.Decide.{dec_le, dec_lt, ℕ_discrete}
 use Rattle.atomic_table.specs.Seated.{TableId}
-use Rattle.turn_lock.specs.Places.{IsPrefix, IsAt, longer, merged, times, upto}
-use Rattle.turn_lock.specs.Seats.{SeatView, first_seat, split_seat, joined_seat, IsSameSeat, IsLegalSeat, Adds, Sees}
+use Rattle.turn_lock.specs.Places.{IsPrefix, IsAt, merged, times, upto}
+use Rattle.turn_lock.specs.Seats.{SeatView, first_seat, split_seat, joined_seat, IsSameSeat, Adds, Sees}
 use Rattle.turn_lock.specs.Gains.{AreAt, Gains, OwnAre, Grew}
 use Rattle.turn_lock.proofs.Lists.{one_if, one_if_same, one_if_other, prefix_refl, prefix_then, times-append, times-merged}
 

@@ -1,20 +1,19 @@
 -- A new lock meets the rule, and split and join keep it.
-use Rattle.std.proofs.Common.{◌≡◌, ◌≢◌, ◌⊎◌, ℕ, zero, suc, ◌+◌, ◌-◌, ◌%◌, ◌<◌, ◌≤◌, Bool, true, false, List, [], ◌∷◌, ◌++◌, length, set, Option, Some, None, refl, sym, ap, ◌∙◌, subst, inl, inr, ⊎_elim, arith}
+use Rattle.std.proofs.Common.{◌≡◌, ℕ, zero, suc, ◌+◌, ◌<◌, ◌≤◌, false, List, [], ◌∷◌, length, set, Option, Some, None, refl, sym, ap, ◌∙◌, subst, inl, arith}
 use Rattle.std.specs.Prelude.{slice_index, slice_set}
 use mathlib.Core.Option.{some, some-injective, some-ne-none}
-use mathlib.Core.Logic.{dite}
 use native.Mathlib.Decide.{dec_le}
 use lib.ListN.{get_elem?}
-use Rattle.atomic_table.specs.Table.{State, Allows, Splits, Joins, keeps, opening}
+use Rattle.atomic_table.specs.Table.{Allows, Splits, Joins, keeps, opening}
 use Rattle.atomic_table.proofs.Lists.{set_else}
 use Rattle.turn_lock.specs.declared.view.View.{View}
 use Rattle.turn_lock.specs.declared.view.Held.{Held}
-use Rattle.turn_lock.specs.Places.{IsPrefix, RisesFrom, times, longer, merged, capped}
-use Rattle.turn_lock.specs.Turns.{total, waits, Fits, AtHome, IsOut, Kept}
+use Rattle.turn_lock.specs.Places.{RisesFrom, times, longer}
+use Rattle.turn_lock.specs.Turns.{waits, Fits, Kept}
 use Rattle.turn_lock.specs.Steps.{newcomer, nobody, giving, joined, settled, Settled}
-use Rattle.turn_lock.proofs.Lists.{prefix_refl, prefix_then, prefix_length, longer_begins, rises_more, rises_merged, times_above, times_below, times-merged}
+use Rattle.turn_lock.proofs.Lists.{prefix_length, longer_begins, rises_more, rises_merged, times_above, times_below, times-merged}
 use Rattle.turn_lock.proofs.Totals.{total_set, total_at, total_two, total_snoc, each_set, each_snoc}
-use Rattle.turn_lock.proofs.Slots.{off, set_there, slot_set, slot_snoc}
+use Rattle.turn_lock.proofs.Slots.{off, slot_set, slot_snoc}
 
 no_ticket : (t : ℕ) → None ≡ Some t → ⊥
 no_ticket t e = cc

@@ -1,14 +1,12 @@
 -- What a seat is after its calls, told of the views at the table.
-use Rattle.std.proofs.Common.{◌≡◌, ◌≢◌, ◌⊎◌, ℕ, ◌+◌, ◌%◌, ◌<◌, ◌≤◌, ◌==◌, Bool, true, false, true≢false, List, [], ◌∷◌, ◌++◌, length, Option, Some, None, MatchBool, refl, sym, ap, ◌∙◌, subst, ⊎_elim, arith, length-append, append-nil}
+use Rattle.std.proofs.Common.{◌≡◌, ℕ, ◌+◌, ◌<◌, ◌≤◌, List, [], ◌∷◌, ◌++◌, length, Option, Some, refl, sym, ap, ◌∙◌, subst, ⊎_elim, arith, length-append}
 use Rattle.atomic_table.specs.Table.{Me, rest}
-use Rattle.atomic_table.specs.Seated.{TableId}
 use Rattle.turn_lock.specs.declared.view.View.{View}
 use Rattle.turn_lock.specs.declared.view.Held.{Held}
-use Rattle.turn_lock.specs.Places.{IsPrefix, RisesFrom, longer, capped, upto}
-use Rattle.turn_lock.specs.Steps.{newcomer, drawing, taking, acted, leaving, joined, settled, Took, Looked, Settled, HasTurn, HoldsMachine}
-use Rattle.turn_lock.specs.Seats.{SeatView, seat_view, Opened, IsSeated, Adds, Sees}
+use Rattle.turn_lock.specs.Places.{RisesFrom, longer}
+use Rattle.turn_lock.specs.Steps.{newcomer, drawing, taking, acted, leaving, joined, Settled, HasTurn, HoldsMachine}
+use Rattle.turn_lock.specs.Seats.{IsSeated}
 use Rattle.turn_lock.proofs.Lists.{prefix_length, longer_is, rises_more, rises_push}
-use Rattle.turn_lock.proofs.Slots.{same_number, other_number}
 
 module _ {S : Type 0} where
   -- the slot that is out with a seat is read by an exchange

@@ -1,5 +1,5 @@
 -- Where the machine is, as seats change, and what the rule says of tickets.
-use Rattle.std.proofs.Common.{◌≡◌, ◌≢◌, ◌⊎◌, ℕ, zero, suc, ◌+◌, ◌<◌, ◌≤◌, ◌==◌, Bool, true, false, true≢false, List, [], ◌∷◌, ◌++◌, set, Option, Some, None, MatchBool, refl, sym, ap, ◌∙◌, subst, inl, inr, ⊎_elim, arith}
+use Rattle.std.proofs.Common.{◌≡◌, ◌≢◌, ◌⊎◌, ℕ, zero, suc, ◌+◌, ◌<◌, ◌≤◌, ◌==◌, Bool, true, false, true≢false, List, [], ◌∷◌, ◌++◌, set, Option, Some, None, MatchBool, refl, sym, ap, ◌∙◌, inl, inr, ⊎_elim, arith}
 use Rattle.std.proofs.lemmas.Bool.Decides.{nat_tests}
 use mathlib.Core.Option.{some, some-ne-none, some-injective}
 use mathlib.Core.Option as maybe
@@ -9,7 +9,7 @@ use lib.ListN.{get_elem?}
 use Rattle.atomic_table.proofs.Lists.{set_else, at_longer}
 use Rattle.turn_lock.specs.declared.view.View.{View}
 use Rattle.turn_lock.specs.declared.view.Held.{Held}
-use Rattle.turn_lock.specs.Turns.{total, waits, Fits, AtHome, IsOut, Kept}
+use Rattle.turn_lock.specs.Turns.{waits, AtHome, IsOut, Kept}
 use Rattle.turn_lock.proofs.Totals.{total_le, each_set, each_snoc}
 use Rattle.atomic_table.specs.Table.{State}
 

@@ -1,5 +1,5 @@
 -- The steps of a turn keep the rule: draw, look, count, serve.
-use Rattle.std.proofs.Common.{◌≡◌, ◌≢◌, ◌⊎◌, ℕ, zero, suc, ◌+◌, ◌%◌, ◌^◌, ◌<◌, ◌≤◌, ◌==◌, Bool, true, false, cond, List, [], ◌∷◌, ◌++◌, length, set, Option, Some, None, refl, sym, ap, ◌∙◌, subst, inl, inr, ⊎_elim, arith, length-append, append-nil}
+use Rattle.std.proofs.Common.{◌≡◌, ◌≢◌, ℕ, ◌+◌, ◌%◌, ◌^◌, ◌<◌, ◌≤◌, ◌==◌, Bool, true, false, cond, List, [], ◌∷◌, ◌++◌, length, Option, Some, None, refl, sym, ap, ◌∙◌, subst, inl, inr, ⊎_elim, arith, length-append, append-nil}
 use Rattle.std.specs.Prelude.{slice_index, slice_set}
 use mathlib.Core.Option.{some, none, some-injective}
 use mathlib.Core.Option as maybe
@@ -11,8 +11,8 @@ use Rattle.atomic_table.proofs.Lists.{set_again}
 use Rattle.turn_lock.specs.declared.view.View.{View}
 use Rattle.turn_lock.specs.declared.view.Held.{Held}
 use Rattle.turn_lock.specs.Places.{IsPrefix, RisesFrom, times, capped, upto}
-use Rattle.turn_lock.specs.Turns.{total, waits, Fits, AtHome, IsOut, Kept}
-use Rattle.turn_lock.specs.Steps.{drawing, taking, acted, leaving, Drew, Took, Looked, Counted, Served}
+use Rattle.turn_lock.specs.Turns.{waits, Fits, AtHome, IsOut, Kept}
+use Rattle.turn_lock.specs.Steps.{drawing, taking, acted, leaving, Drew, Looked, Counted, Served}
 use Rattle.turn_lock.proofs.Lists.{one_if, one_if_same, one_if_other, prefix_refl, prefix_then, prefix_length, prefix_whole, rises_more, rises_push, times_above, times-append, whole_rising}
 use Rattle.turn_lock.proofs.Totals.{total_set, total_two, total_one, total_none, each_set}
 use Rattle.turn_lock.proofs.Slots.{match_true, match_false, same_number, other_number, off, not_true, set_there, few_wait, one_holds, slot_set}

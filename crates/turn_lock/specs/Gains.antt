@@ -1,5 +1,5 @@
 -- What a chain of calls adds to a seat, and predicates on the entries that seats own.
-use Rattle.std.specs.Prelude.{◌≡◌, ◌⊎◌, ℕ, ◌+◌, ◌<◌, List, [], ◌∷◌, ◌++◌, length}
+use Rattle.std.specs.Prelude.{◌≡◌, ◌⊎◌, ℕ, ◌<◌, List, [], ◌∷◌, ◌++◌}
 use Rattle.turn_lock.specs.Places.{IsPrefix, IsAt, times}
 use Rattle.turn_lock.specs.Seats.{SeatView, IsSameSeat, IsLegalSeat}
 

@@ -1,4 +1,4 @@
-use Rattle.std.proofs.Common.{sym, ap, ◌∙◌, ◌<◌, ◌≡◌, arith, subst, ℕ}
+use Rattle.std.proofs.Common.{sym, ◌∙◌, arith}
 use Rattle.turn_lock.proofs.Asked.{may_count}
 use Rattle.turn_lock.proofs.shared.Shared.count.Goals as goal
 

@@ -1,5 +1,5 @@
-use Rattle.std.proofs.Common.{sym, ap, ◌∙◌, arith}
-use Rattle.turn_lock.proofs.Asked.{may_draw, may_look}
+use Rattle.std.proofs.Common.{sym, ◌∙◌, arith}
+use Rattle.turn_lock.proofs.Asked.{may_draw}
 use Rattle.turn_lock.proofs.shared.Shared.enter.Goals as goal
 
 pub fetch_add-ticket-requires : goal.fetch_add-ticket-requires

@@ -1,4 +1,4 @@
-use Rattle.std.proofs.Common.{sym, ap, ◌∙◌, ◌<◌, ◌≡◌, arith, subst, ℕ}
+use Rattle.std.proofs.Common.{sym, ap, ◌∙◌, arith}
 use Rattle.turn_lock.proofs.Meeting.{meets}
 use Rattle.turn_lock.proofs.Asked.{may_settle}
 use Rattle.turn_lock.proofs.Seated.{joined_seated}

@@ -1,10 +1,10 @@
-use Rattle.std.proofs.Common.{sym, ap, ◌∙◌, ◌≡◌, ◌∷◌, [], Some, arith, subst}
+use Rattle.std.proofs.Common.{sym, ap, ◌∙◌, ◌∷◌, Some, arith, subst}
 use Rattle.atomic_table.specs.Table.{rest}
 use Rattle.turn_lock.proofs.Asked.{may_serve}
 use Rattle.turn_lock.specs.Steps.{HoldsMachine}
 use Rattle.turn_lock.proofs.shared.Shared.leave.Goals as goal
 
-pub fetch_add-served-requires : goal.fetch_add-requires
+pub fetch_add-served-requires : goal.fetch_add-served-requires
 fetch_add-served-requires g c =
     let e = c.exchange-none.ensures in (
       e.0 ∙ c.requires.here ∙ sym c.self.view_is,

@@ -1,4 +1,4 @@
-use Rattle.std.proofs.Common.{sym, ap, ◌∙◌, subst, refl, Some, ◌∷◌, []}
+use Rattle.std.proofs.Common.{sym, subst, refl, Some, ◌∷◌, []}
 use Rattle.atomic_table.specs.Table.{opening}
 use Rattle.turn_lock.specs.Turns.{Kept}
 use Rattle.turn_lock.specs.Steps.{newcomer}

@@ -1,13 +1,14 @@
-// A library with one function.
+//! A counter with a limit that many threads share through a turn lock: what each of them was
+//! answered is part of one history.
 #![tactic(auto)]
 
-ghost use Rattle.std.specs.Prelude.{◌≡◌};
-ghost use Rattle.shared_counter.specs.Echo.{echo_of};
+pub mod callers;
+pub mod counter;
+pub mod tally;
 
-// The `ensures` clause is the contract: what `echo` returns is `echo_of` of its argument, a definition
-// in `specs/Echo.antt`, which a caller's clause can cite too.
-pub fn echo(x: usize) -> usize
-    ensures { result ≡ echo_of x }
-{
-    x
-}
+pub use callers::count_by_four;
+pub use counter::{Add, Counter, Entry, OverLimit};
+pub use tally::Tally;
+
+#[cfg(test)]
+mod tests;

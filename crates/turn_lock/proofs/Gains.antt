@@ -32,13 +32,25 @@ module _ {A : Type 0} where
       let n = at.1 in
       ap (λ (l : List A). slice_index_or l k d) (sym whole) ∙ index_at at.0 at.2.0 e d k (omega arith)
 
-pub times_upto : (low n p : ℕ) → low < p → p ≤ low + n → 0 < times p (upto low n)
-times_upto low zero p lt le = absurd (omega arith)
-times_upto low (suc n) p lt le = cases (dec_le p (suc low)) (λ above. times_upto (suc low) n p above (omega arith))
+pub none_upto : (low n p : ℕ) → p ≤ low → times p (upto low n) ≡ 0
+none_upto low zero p le = refl
+none_upto low (suc n) p le =
+    let other = one_if_other (suc low) p (λ h. omega arith) in
+    let rest = none_upto (suc low) n p (omega arith) in
+    omega arith
+
+-- each of these numbers stands there once
+pub once_upto : (low n p : ℕ) → low < p → p ≤ low + n → times p (upto low n) ≡ 1
+once_upto low zero p lt le = absurd (omega arith)
+once_upto low (suc n) p lt le = cases (dec_le p (suc low)) (λ above. once_upto (suc low) n p above (omega arith))
   where
-    cases : Dec (p ≤ suc low) → (suc low < p → 0 < times p (upto (suc low) n)) → 0 < one_if (suc low) p + times p (upto (suc low) n)
-    cases (yes le) rest = let one = one_if_same (suc low) p (omega arith) in omega arith
-    cases (no above) rest = let far : p ≤ suc low → ⊥ = above in let h = rest (omega arith) in omega arith
+    cases : Dec (p ≤ suc low) → (suc low < p → times p (upto (suc low) n) ≡ 1) → one_if (suc low) p + times p (upto (suc low) n) ≡ 1
+    cases (yes le) rest = let one = one_if_same (suc low) p (omega arith) in let none = none_upto (suc low) n p le in omega arith
+    cases (no above) rest =
+        let far : p ≤ suc low → ⊥ = above in
+        let h = rest (omega arith) in
+        let other = one_if_other (suc low) p (λ same. far (omega arith)) in
+        omega arith
 
 module _ {O E R X : Type 0} (legal : O → List (E × R) → Type 0) where
   pub gains_none : (v : SeatView O E R X) → Gains legal v [] v
@@ -164,6 +176,6 @@ module _ {O E R X : Type 0} (Q : E × R → Type 0) where
   pub whole_are : (v : SeatView O E R X) → OwnAre Q v → v.own ≡ upto 0 (length v.seen) → All Q v.seen
   whole_are v own whole k d lt =
       let here : times (k + 1) v.own ≡ times (k + 1) (upto 0 (length v.seen)) = ap (times (k + 1)) whole in
-      let stands = times_upto 0 (length v.seen) (k + 1) (omega arith) (omega arith) in
+      let once = once_upto 0 (length v.seen) (k + 1) (omega arith) (omega arith) in
       let f = own (k + 1) (omega arith) in
       subst Q (sym (entry_at v.seen k f.0 d f.1)) f.2

@@ -1,7 +1,7 @@
 -- Beginnings of lists, and rising lists of places.
 use Rattle.std.proofs.Common.{◌≡◌, ◌≢◌, ◌⊎◌, ℕ, zero, suc, ◌+◌, ◌<◌, ◌≤◌, ◌==◌, nat_lt, Bool, true, false, if◌then◌else◌, List, [], ◌∷◌, ◌++◌, length, refl, sym, ap, ◌∙◌, subst, inl, inr, ⊎_elim, append_assoc, append-nil, length-append, arith}
 use Rattle.std.proofs.lemmas.Bool.Decides.{nat_tests}
-use Rattle.turn_lock.specs.Places.{IsPrefix, longer, RisesFrom, times, with_place, merged, upto}
+use Rattle.turn_lock.specs.Places.{IsPrefix, longer, RisesFrom, times, with_place, merged, upto, capped}
 
 module _ {A : Type 0} where
   pub prefix_refl : (xs : List A) → IsPrefix xs xs
@@ -161,3 +161,11 @@ whole_rising low (suc n) high (q ∷ qs) e r all =
     (once q p) in
     let rest : RisesFrom (suc low) qs high = subst (λ (x : ℕ). RisesFrom x qs high) is r.2 in
     λ i. is i ∷ whole_rising (suc low) n high qs (omega arith) rest more i
+
+-- a count below its last value
+pub capped_below : (n : ℕ) → n < 18446744073709551615 → capped n ≡ n
+capped_below n lt = cases (nat_lt n 18446744073709551615) refl
+  where
+    cases : (b : Bool) → nat_lt n 18446744073709551615 ≡ b → (if b then n else 18446744073709551615) ≡ n
+    cases true e = refl
+    cases false e = absurd (grind (arith, nat_tests))

@@ -5,6 +5,7 @@
 pub mod callers;
 pub mod counter;
 pub mod tally;
+pub mod work;
 
 pub use callers::count_by_four;
 pub use counter::{Add, Counter, Entry, OverLimit};

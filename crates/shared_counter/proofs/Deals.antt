@@ -1,11 +1,16 @@
 -- What callers did, through seats that are split and joined.
-use Rattle.std.proofs.Common.{◌≡◌, Some, ℕ, ◌+◌, List, [], ◌∷◌, ◌++◌, length, refl, sym, ap, ◌∙◌, subst, arith}
+use Rattle.std.proofs.Common.{◌≡◌, ◌≤◌, ◌<◌, Some, ℕ, ◌+◌, List, [], ◌∷◌, ◌++◌, length, refl, sym, ap, ◌∙◌, subst, inl, inr, ⊎_elim, append-nil, length-append, arith}
 use Rattle.turn_lock.specs.Places.{IsPrefix, RisesFrom, times, merged, upto}
 use Rattle.turn_lock.specs.Seats.{SeatView, Opened, joined_seat}
 use Rattle.turn_lock.specs.Gains.{Gains}
 use Rattle.turn_lock.proofs.Lists.{prefix_length, rises_more, times-merged}
 use Rattle.turn_lock.proofs.Gains.{are_longer, once_upto}
-use Rattle.shared_counter.specs.Dealt.{AllAt, times_in, IsDealt, Owns, HasDone}
+use Rattle.shared_counter.specs.declared.counter.Add.{Add}
+use Rattle.shared_counter.specs.declared.counter.Counter.{Counter}
+use Rattle.shared_counter.specs.declared.counter.OverLimit.{OverLimit}
+use Rattle.shared_counter.specs.Counting.{value_after, Stands}
+use Rattle.shared_counter.specs.Dealt.{AllAt, times_in, IsDealt, Owns, HasDone, AddEach, IsFull, HasMade, HaveMade, GainsOne}
+use Rattle.shared_counter.specs.Tallied.{IsMadeBy}
 
 module _ {A : Type 0} where
   all_longer : (xs ys : List A) → IsPrefix xs ys → (ess : List (List A)) (pss : List (List ℕ)) → AllAt xs ess pss → AllAt ys ess pss
@@ -77,3 +82,76 @@ module _ {O E R X : Type 0} where
     where
       some_is : (a b : O) → Some a ≡ Some b → a ≡ b
       some_is a b e = cc
+
+value_grows : (value : ℕ) (xs ys : List (Add × ℕ)) → value_after value xs ≤ value_after value (xs ++ ys)
+value_grows value [] [] = omega arith
+value_grows value [] (y ∷ ys) = let h = value_grows (value + y.0.by) [] ys in omega arith
+value_grows value (x ∷ xs) ys = value_grows (value + x.0.by) xs ys
+
+abbrev Viewed : Type 0
+Viewed = SeatView Counter Add ℕ OverLimit
+
+-- what leaves no room leaves none later
+pub full_grows : (by : ℕ) (v w : Viewed) → IsPrefix v.seen w.seen → w.opening ≡ v.opening → IsFull by v → IsFull by w
+full_grows by v w grows opening full =
+    let more = value_grows full.0.value v.seen grows.0 in
+    let is = ap (value_after full.0.value) grows.1 in
+    let h : full.0.limit < value_after full.0.value v.seen + by = full.2 in
+    (full.0, opening ∙ full.1, (let k : full.0.limit < value_after full.0.value w.seen + by = omega arith in k))
+
+pub made_grows : (by acts : ℕ) (v w : Viewed) → IsPrefix v.seen w.seen → w.opening ≡ v.opening → (ess : List (List (Add × ℕ))) → HaveMade by acts ess v → HaveMade by acts ess w
+made_grows by acts v w grows opening [] made = tt
+made_grows by acts v w grows opening (es ∷ ess) made = (
+  (made.0.0, ⊎_elim (λ (all : length es ≡ acts). inl all) (λ (full : IsFull by v). inr (full_grows by v w grows opening full)) made.0.1),
+  made_grows by acts v w grows opening ess made.1,
+)
+
+made_append : (by acts : ℕ) (s : Viewed) (ess fss : List (List (Add × ℕ))) → HaveMade by acts ess s → HaveMade by acts fss s → HaveMade by acts (ess ++ fss) s
+made_append by acts s [] fss a b = b
+made_append by acts s (es ∷ ess) fss a b = (a.0, made_append by acts s ess fss a.1 b)
+
+-- two groups of callers, whose seats are joined
+pub both_made : (by acts : ℕ) (start left right first other last : Viewed) (ess fss : List (List (Add × ℕ))) → left.opening ≡ start.opening → right.opening ≡ start.opening → HasDone left ess first → HasDone right fss other
+    → last ≡ joined_seat first other → IsPrefix first.seen last.seen → IsPrefix other.seen last.seen → HaveMade by acts ess first → HaveMade by acts fss other → HaveMade by acts (ess ++ fss) last
+both_made by acts start left right first other last ess fss opening opening' a b is grows told made made' =
+    let here : last.opening ≡ first.opening = ap (λ (s : Viewed). s.opening) is in
+    let there : last.opening ≡ other.opening = here ∙ a.same.opening ∙ opening ∙ sym (b.same.opening ∙ opening') in
+    made_append by acts last ess fss (made_grows by acts first last grows here ess made) (made_grows by acts other last told there fss made')
+
+pub each_push : (by : ℕ) (es : List (Add × ℕ)) (r : ℕ) → AddEach by es → AddEach by (es ++ (record { by = by }, r) ∷ [])
+each_push by [] r each = (refl, tt)
+each_push by (e ∷ es) r each = (each.0, each_push by es r each.1)
+
+-- after one more act
+pub made_more : (by n : ℕ) (old new : Viewed) (before after : List (Add × ℕ)) → GainsOne by old before new after → HasMade by n before old → HasMade by (n + 1) after new
+made_more by n old new before after one made = ⊎_elim
+    (λ (t : (r : ℕ) × (one.es ≡ (record { by = by }, r) ∷ [])).
+    let is : after ≡ before ++ (record { by = by }, t.0) ∷ [] = one.entries ∙ ap (λ (es : List (Add × ℕ)). before ++ es) t.1 in (
+      subst (AddEach by) (sym is) (each_push by before t.0 made.0),
+      ⊎_elim
+          (λ (all : length before ≡ n). inl (let l = ap length is in let k = length-append before ((record { by = by }, t.0) ∷ []) in omega arith))
+          (λ (full : IsFull by old). inr (full_grows by old new one.gains.grows one.gains.same.opening full))
+          made.1,
+    ))
+    (λ (t : (one.es ≡ []) × IsFull by new).
+    let is : after ≡ before = one.entries ∙ ap (λ (es : List (Add × ℕ)). before ++ es) t.0 ∙ append-nil before in
+    (subst (AddEach by) (sym is) made.0, inr t.1))
+    one.made
+
+-- where the closing seat says so, the counter has no room
+pub made_by : (by acts : ℕ) (start now : Counter) (s : Viewed) (es : List (Add × ℕ)) → s.opening ≡ Some start → Stands start s.seen now → HasMade by acts es s → IsMadeBy by acts now es
+made_by by acts start now s es is stands made = (
+  made.0,
+  ⊎_elim
+      (λ (all : length es ≡ acts). inl all)
+      (λ (full : IsFull by s).
+      let same : full.0 ≡ start = counter_is full.0 start (sym full.1 ∙ is) in
+      let room : start.limit < value_after start.value s.seen + by = subst (λ (o : Counter). o.limit < value_after o.value s.seen + by) same full.2 in
+      let l = stands.0 in
+      let v = stands.1 in
+      inr (omega arith))
+      made.1,
+)
+  where
+    counter_is : (a b : Counter) → Some a ≡ Some b → a ≡ b
+    counter_is a b e = cc

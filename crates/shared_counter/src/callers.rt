@@ -4,7 +4,7 @@ ghost use Rattle.turn_lock.specs.Gains.{Gains};
 ghost use Rattle.turn_lock.specs.Seats.{IsSameSeat};
 ghost use Rattle.shared_counter.specs.Counting.{IsLegal};
 ghost use Rattle.shared_counter.specs.Tallied.{IsTallyOf};
-ghost use Rattle.shared_counter.specs.Dealt.{GainsOne, HasDone};
+ghost use Rattle.shared_counter.specs.Dealt.{GainsOne, HasDone, HasMade, HaveMade};
 
 use crate::counter::{Add, Counter, Entry};
 use crate::tally::Tally;
@@ -26,8 +26,7 @@ fn add_once<R: Wait>(
     entries: &mut Vec<Entry>,
 ) -> Result<(), NoMemory>
     requires here { seat.old.shared ≡ shared.now }
-    requires room { seat.old.refusals < 18446744073709551614 }
-    ensures done { OnOk result (GainsOne seat.old entries.old.items seat.new entries.new.items) }
+    ensures done { OnOk result (GainsOne add.by seat.old entries.old.items seat.new entries.new.items) }
 {
     match shared.act(rt, seat, &add) {
         Ok(reply) => match entries.push((add, reply)) {
@@ -48,9 +47,8 @@ fn add_often<R: Wait>(
     acts: u32,
 ) -> Result<Vec<Entry>, NoMemory>
     requires here { seat.old.shared ≡ shared.now }
-    requires room { seat.old.refusals + acts < 18446744073709551615 }
     ensures gains { IfOk result (λ v. Gains IsLegal seat.old v.items seat.new) }
-    ensures made { IfOk result (λ v. length v.items + seat.new.refusals ≡ acts + seat.old.refusals) }
+    ensures made { IfOk result (λ v. HasMade by acts v.items seat.new) }
 {
     let mut entries = Vec::new(alloc);
     for _i in 0..acts {
@@ -69,8 +67,8 @@ fn add_alone<R: Wait>(
     acts: u32,
 ) -> Result<(Seat<Counter>, Vec<Entry>), NoMemory>
     requires here { seat.shared ≡ shared.now }
-    requires fresh { (seat.own ≡ []) × (seat.refusals ≡ 0) }
-    ensures { IfOk result (λ r. HasDone seat (r.1.items ∷ []) r.0) }
+    requires fresh { seat.own ≡ [] }
+    ensures { IfOk result (λ r. HasDone seat (r.1.items ∷ []) r.0 × HaveMade by acts (r.1.items ∷ []) r.0) }
 {
     let entries = add_often(rt, alloc, shared, &mut seat, by, acts)?;
     let _parts = seat.parts();
@@ -87,20 +85,20 @@ fn add_in_two<R: Threads + Wait + Sync>(
     acts: u32,
 ) -> Result<(Seat<Counter>, Vec<Entry>, Vec<Entry>), NoMemory>
     requires here { seat.shared ≡ shared.now }
-    requires fresh { (seat.own ≡ []) × (seat.refusals ≡ 0) }
+    requires fresh { seat.own ≡ [] }
     requires enough { 1 < seat.parts }
-    ensures { IfOk result (λ r. HasDone seat (r.1.items ∷ r.2.items ∷ []) r.0) }
+    ensures { IfOk result (λ r. HasDone seat (r.1.items ∷ r.2.items ∷ []) r.0 × HaveMade by acts (r.1.items ∷ r.2.items ∷ []) r.0) }
 {
     let other = shared.split(&mut seat, 1)?;
     let (left, right) = join(
         rt,
         move || -> Result<(Seat<Counter>, Vec<Entry>), NoMemory>
-            requires { (seat.shared ≡ shared.now) × (seat.own ≡ []) × (seat.refusals ≡ 0) }
-            ensures { IfOk result (λ r. HasDone seat (r.1.items ∷ []) r.0) }
+            requires { (seat.shared ≡ shared.now) × (seat.own ≡ []) }
+            ensures { IfOk result (λ r. HasDone seat (r.1.items ∷ []) r.0 × HaveMade by acts (r.1.items ∷ []) r.0) }
         { add_alone(rt, alloc, shared, seat, by, acts) },
         move || -> Result<(Seat<Counter>, Vec<Entry>), NoMemory>
-            requires { (other.shared ≡ shared.now) × (other.own ≡ []) × (other.refusals ≡ 0) }
-            ensures { IfOk result (λ r. HasDone other (r.1.items ∷ []) r.0) }
+            requires { (other.shared ≡ shared.now) × (other.own ≡ []) }
+            ensures { IfOk result (λ r. HasDone other (r.1.items ∷ []) r.0 × HaveMade by acts (r.1.items ∷ []) r.0) }
         { add_alone(rt, alloc, shared, other, by, acts) },
     );
     let (mut seat, first) = left?;
@@ -109,9 +107,9 @@ fn add_in_two<R: Threads + Wait + Sync>(
     Ok((seat, first, second))
 }
 
-/// Lets four threads add to the counter, each this often. The entries of all of them are one
-/// history of the counter: each thread's stand in it in their order, and each place of it is one
-/// thread's, once.
+/// Lets four threads add to the counter, each this often unless there is no room left. The entries
+/// of all of them are one history of the counter: each thread's stand in it in their order, and
+/// each place of it is one thread's, once.
 pub fn count_by_four<R: Threads + Wait + Sync>(
     rt: &R,
     alloc: Global,
@@ -119,7 +117,7 @@ pub fn count_by_four<R: Threads + Wait + Sync>(
     by: u64,
     acts: u32,
 ) -> Result<Tally, NoMemory>
-    ensures { IfOk result (IsTallyOf counter) }
+    ensures { IfOk result (IsTallyOf counter by acts) }
 {
     let (shared, mut seat) = Shared::new(alloc, counter)?;
     let other = shared.split(&mut seat, HALF)?;
@@ -127,12 +125,12 @@ pub fn count_by_four<R: Threads + Wait + Sync>(
     let (left, right) = join(
         rt,
         move || -> Result<(Seat<Counter>, Vec<Entry>, Vec<Entry>), NoMemory>
-            requires { (seat.shared ≡ lock.now) × (seat.own ≡ []) × (seat.refusals ≡ 0) × (1 < seat.parts) }
-            ensures { IfOk result (λ r. HasDone seat (r.1.items ∷ r.2.items ∷ []) r.0) }
+            requires { (seat.shared ≡ lock.now) × (seat.own ≡ []) × (1 < seat.parts) }
+            ensures { IfOk result (λ r. HasDone seat (r.1.items ∷ r.2.items ∷ []) r.0 × HaveMade by acts (r.1.items ∷ r.2.items ∷ []) r.0) }
         { add_in_two(rt, alloc, lock, seat, by, acts) },
         move || -> Result<(Seat<Counter>, Vec<Entry>, Vec<Entry>), NoMemory>
-            requires { (other.shared ≡ lock.now) × (other.own ≡ []) × (other.refusals ≡ 0) × (1 < other.parts) }
-            ensures { IfOk result (λ r. HasDone other (r.1.items ∷ r.2.items ∷ []) r.0) }
+            requires { (other.shared ≡ lock.now) × (other.own ≡ []) × (1 < other.parts) }
+            ensures { IfOk result (λ r. HasDone other (r.1.items ∷ r.2.items ∷ []) r.0 × HaveMade by acts (r.1.items ∷ r.2.items ∷ []) r.0) }
         { add_in_two(rt, alloc, lock, other, by, acts) },
     );
     let (mut seat, first, second) = left?;

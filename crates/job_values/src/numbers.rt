@@ -1,7 +1,6 @@
 //! The numbers of the scheduler, each within its bounds: moments, ids, node numbers and the offset.
 ghost use Rattle.std.specs.Prelude.{◌≡◌, ℕ, ℤ, pos, negsuc, ◌≤◌, ◌≤ℤ◌, ◌&&◌, nat_le, int_le, if◌then◌else◌};
-
-ghost use Rattle.job_values.specs.declared.numbers.TheConstants.{LAST_MOMENT, LAST_JOB_ID, LAST_LOG_ID, LAST_ADMIN, LAST_RUNNER, LAST_OFFSET};
+ghost use Rattle.job_values.specs.declared.numbers.TheConstants.{LAST_MOMENT, LAST_JOB_ID, LAST_LOG_ID, LAST_ADMIN, LAST_RUNNER, LAST_OFFSET, LAST_SECONDS, LAST_RETRIES, LAST_SHARD, LAST_LOG_MOMENT, LAST_REQUEST, LAST_LINE};
 
 use std::marker::Model;
 
@@ -22,6 +21,24 @@ pub const LAST_RUNNER: u8 = 63;
 
 /// The greatest distance of the civil clock from UTC, in seconds.
 pub const LAST_OFFSET: i32 = 64_800;
+
+/// The greatest timeout, in seconds.
+pub const LAST_SECONDS: u32 = 2_147_483_647;
+
+/// The greatest number of retries.
+pub const LAST_RETRIES: u32 = 100;
+
+/// The greatest index of a shard, and the greatest number of shards.
+pub const LAST_SHARD: u32 = 2_147_483_647;
+
+/// The greatest moment of a log that an executor is told.
+pub const LAST_LOG_MOMENT: u64 = 9_223_372_036_854_775_807;
+
+/// The greatest number of a run request, and of a batch.
+pub const LAST_REQUEST: u64 = 9_223_372_036_854_775_807;
+
+/// The greatest line number that is asked for.
+pub const LAST_LINE: u32 = 2_147_483_647;
 
 /// How often a job was started, stopped or updated.
 pub type Edition = u64;
@@ -283,6 +300,228 @@ impl RunnerNo {
     pub fn get(self) -> u8
         ensures value { result ≡ self }
         ensures most { result ≤ LAST_RUNNER }
+    {
+        self.number
+    }
+}
+
+/// How long a run may last, in seconds, from 0 for no end to `LAST_SECONDS`.
+#[derive(Clone, Copy, Debug, PartialEq, Eq, PartialOrd, Ord)]
+pub struct Timeout {
+    seconds: u32,
+}
+
+impl Model for Timeout {
+    ghost Value = { ℕ };
+
+    ghost view = { λ a. a.seconds };
+
+    ghost invariant = { λ a. a.seconds ≤ LAST_SECONDS };
+
+    ghost inverse = { λ n. record { seconds = n } };
+}
+
+impl Timeout {
+    /// None exactly above `LAST_SECONDS`.
+    pub fn new(n: u32) -> Option<Timeout>
+        ensures { result ≡ (if nat_le n LAST_SECONDS then Some n else None) }
+    {
+        if n <= LAST_SECONDS {
+            Some(Timeout { seconds: n })
+        } else {
+            None
+        }
+    }
+
+    /// The number of seconds.
+    pub fn get(self) -> u32
+        ensures value { result ≡ self }
+        ensures most { result ≤ LAST_SECONDS }
+    {
+        self.seconds
+    }
+}
+
+/// How often a failed run is tried again, from 0 to `LAST_RETRIES`.
+#[derive(Clone, Copy, Debug, PartialEq, Eq, PartialOrd, Ord)]
+pub struct Retries {
+    number: u32,
+}
+
+impl Model for Retries {
+    ghost Value = { ℕ };
+
+    ghost view = { λ a. a.number };
+
+    ghost invariant = { λ a. a.number ≤ LAST_RETRIES };
+
+    ghost inverse = { λ n. record { number = n } };
+}
+
+impl Retries {
+    /// None exactly above `LAST_RETRIES`.
+    pub fn new(n: u32) -> Option<Retries>
+        ensures { result ≡ (if nat_le n LAST_RETRIES then Some n else None) }
+    {
+        if n <= LAST_RETRIES {
+            Some(Retries { number: n })
+        } else {
+            None
+        }
+    }
+
+    /// The number that `new` took.
+    pub fn get(self) -> u32
+        ensures value { result ≡ self }
+        ensures most { result ≤ LAST_RETRIES }
+    {
+        self.number
+    }
+}
+
+/// The index of a shard, or the number of shards, from 0 to `LAST_SHARD`.
+#[derive(Clone, Copy, Debug, PartialEq, Eq, PartialOrd, Ord)]
+pub struct ShardNo {
+    number: u32,
+}
+
+impl Model for ShardNo {
+    ghost Value = { ℕ };
+
+    ghost view = { λ a. a.number };
+
+    ghost invariant = { λ a. a.number ≤ LAST_SHARD };
+
+    ghost inverse = { λ n. record { number = n } };
+}
+
+impl ShardNo {
+    /// None exactly above `LAST_SHARD`.
+    pub fn new(n: u32) -> Option<ShardNo>
+        ensures { result ≡ (if nat_le n LAST_SHARD then Some n else None) }
+    {
+        if n <= LAST_SHARD {
+            Some(ShardNo { number: n })
+        } else {
+            None
+        }
+    }
+
+    /// The number that `new` took.
+    pub fn get(self) -> u32
+        ensures value { result ≡ self }
+        ensures most { result ≤ LAST_SHARD }
+    {
+        self.number
+    }
+}
+
+/// The moment of a log as an executor is told it, in milliseconds, from 0 to `LAST_LOG_MOMENT`.
+#[derive(Clone, Copy, Debug, PartialEq, Eq, PartialOrd, Ord)]
+pub struct LogMoment {
+    ms: u64,
+}
+
+impl Model for LogMoment {
+    ghost Value = { ℕ };
+
+    ghost view = { λ a. a.ms };
+
+    ghost invariant = { λ a. a.ms ≤ LAST_LOG_MOMENT };
+
+    ghost inverse = { λ n. record { ms = n } };
+}
+
+impl LogMoment {
+    /// None exactly above `LAST_LOG_MOMENT`.
+    pub fn new(n: u64) -> Option<LogMoment>
+        ensures { result ≡ (if nat_le n LAST_LOG_MOMENT then Some n else None) }
+    {
+        if n <= LAST_LOG_MOMENT {
+            Some(LogMoment { ms: n })
+        } else {
+            None
+        }
+    }
+
+    /// The number of milliseconds.
+    pub fn get(self) -> u64
+        ensures value { result ≡ self }
+        ensures most { result ≤ LAST_LOG_MOMENT }
+    {
+        self.ms
+    }
+}
+
+/// The number of a run request, or of a batch, from 0 to `LAST_REQUEST`.
+#[derive(Clone, Copy, Debug, PartialEq, Eq, PartialOrd, Ord)]
+pub struct RequestNo {
+    number: u64,
+}
+
+impl Model for RequestNo {
+    ghost Value = { ℕ };
+
+    ghost view = { λ a. a.number };
+
+    ghost invariant = { λ a. a.number ≤ LAST_REQUEST };
+
+    ghost inverse = { λ n. record { number = n } };
+}
+
+impl RequestNo {
+    /// None exactly above `LAST_REQUEST`.
+    pub fn new(n: u64) -> Option<RequestNo>
+        ensures { result ≡ (if nat_le n LAST_REQUEST then Some n else None) }
+    {
+        if n <= LAST_REQUEST {
+            Some(RequestNo { number: n })
+        } else {
+            None
+        }
+    }
+
+    /// The number that `new` took.
+    pub fn get(self) -> u64
+        ensures value { result ≡ self }
+        ensures most { result ≤ LAST_REQUEST }
+    {
+        self.number
+    }
+}
+
+/// The number of a line of a log, from 0 to `LAST_LINE`.
+#[derive(Clone, Copy, Debug, PartialEq, Eq, PartialOrd, Ord)]
+pub struct LineNo {
+    number: u32,
+}
+
+impl Model for LineNo {
+    ghost Value = { ℕ };
+
+    ghost view = { λ a. a.number };
+
+    ghost invariant = { λ a. a.number ≤ LAST_LINE };
+
+    ghost inverse = { λ n. record { number = n } };
+}
+
+impl LineNo {
+    /// None exactly above `LAST_LINE`.
+    pub fn new(n: u32) -> Option<LineNo>
+        ensures { result ≡ (if nat_le n LAST_LINE then Some n else None) }
+    {
+        if n <= LAST_LINE {
+            Some(LineNo { number: n })
+        } else {
+            None
+        }
+    }
+
+    /// The number that `new` took.
+    pub fn get(self) -> u32
+        ensures value { result ≡ self }
+        ensures most { result ≤ LAST_LINE }
     {
         self.number
     }

@@ -77,6 +77,17 @@ impl<T> Seq<T> {
     }
 }
 
+impl<T: Copy> Seq<T> {
+    /// Another list of the same elements.
+    pub fn copy(&self, alloc: Global) -> Result<Seq<T>, NoMemory>
+        ensures { IfOk result (λ s. s ≡ self.now) }
+    {
+        Ok(Seq {
+            items: Vec::from_slice(alloc, self.items.as_slice()).map_err(|_| NoMemory)?,
+        })
+    }
+}
+
 impl<T: Drop> Seq<T> {
     /// Puts an element behind the others. An `Err` changes nothing.
     pub fn push(&mut self, item: T) -> Result<(), NoMemory>

@@ -1,0 +1,75 @@
+//! The events of the cluster, their replies and their refusals.
+
+use super::bounded::{Addresses, AppName};
+use super::job::{FiredTicket, JobSpec, Opened, ScheduleFault};
+use super::numbers::{AdminNo, Edition, GroupId, JobId, Moment};
+use super::seq::Seq;
+use super::words::{Case, GroupKind};
+
+/// What happens to the cluster.
+#[derive(Debug, Drop)]
+pub enum ClusterEvent {
+    /// An admin starts.
+    NodeStart(AdminNo),
+    /// A group is added.
+    AddGroup(AppName, GroupKind, Addresses),
+    /// A job is added; it is stopped.
+    AddJob(JobSpec),
+    /// A job is started at a moment.
+    StartJob(Moment, JobId),
+    /// An admin takes the schedule lock at a moment.
+    ScanBegin(AdminNo, Moment),
+    /// The owner of the lock looks at the next job of its page.
+    ScanStep(AdminNo),
+    /// The ring of an admin turns at a moment.
+    Turn(AdminNo, Moment),
+}
+
+/// The answer to an event.
+#[derive(Debug, Drop)]
+pub enum ClusterReply {
+    /// It is done.
+    Done,
+    /// The id of the added group.
+    Group(GroupId),
+    /// The id of the added job.
+    Job(JobId),
+    /// The job runs, in this edition, and is due at this moment next.
+    Running(Edition, Moment),
+    /// A scan began, with this many jobs on its page.
+    Begun(u64),
+    /// The job is gone or has another edition than on the page.
+    Skip(JobId),
+    /// The job, the case, its due time, its new next time, the time that was put in the ring, and the
+    /// logs that were opened.
+    Look(JobId, Case, Moment, Option<Moment>, Option<Moment>, Seq<Opened>),
+    /// The tickets that a turn took, in order.
+    Fired(Seq<FiredTicket>),
+    /// It was refused, and changed nothing.
+    Refused(ClusterRefusal),
+}
+
+/// Why an event was refused.
+#[derive(Clone, Copy, Debug, PartialEq, Eq)]
+pub enum ClusterRefusal {
+    /// The admin runs.
+    NodeRunning(AdminNo),
+    /// The admin does not run.
+    NodeStopped(AdminNo),
+    /// A scan has this owner.
+    Busy(AdminNo),
+    /// The admin owns no scan.
+    NotScanning,
+    /// No group has the id.
+    NoGroup,
+    /// No job has the id.
+    NoJob,
+    /// The schedule's text is none of its kind.
+    BadSchedule(ScheduleFault),
+    /// The job has no time after the moment and the time that a start looks ahead.
+    NoNext,
+    /// The limit that is reached.
+    TooMany(u32),
+    /// An id or an edition would pass its greatest value.
+    IdsSpent,
+}

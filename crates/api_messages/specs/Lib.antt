@@ -1,0 +1,5 @@
+pub mod Members
+pub mod Tables
+pub mod Meaning
+pub mod Reading
+pub mod Seen

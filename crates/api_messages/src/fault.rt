@@ -1,0 +1,25 @@
+//! Why a body is no message.
+ghost use Rattle.std.specs.Prelude.{◌≡◌};
+
+use job_values::Text;
+use thiserror::Error;
+
+/// The first fault of a body, in this order but for `TooLong`, which comes first for the bytes.
+#[derive(Debug, Drop, Error)]
+pub enum MessageFault {
+    /// The body is no JSON, or nests more than 127 deep.
+    #[error("not JSON")]
+    NotJson,
+    /// The body is no object, or for callbacks no array of objects.
+    #[error("wrong shape")]
+    WrongShape,
+    /// A member is missing or out of form: the first in byte order of names, in the first faulty item.
+    #[error("faulty member")]
+    Member { which: Text },
+    /// The body has more than 1,048,576 bytes, or a callback more than 1,000 items.
+    #[error("too long")]
+    TooLong,
+    /// Memory ran out.
+    #[error("no memory")]
+    NoMemory,
+}

@@ -37,3 +37,12 @@ required n k = row n k None
 -- a member that may be missing, with its default
 abbrev pub optional : List ℕ → Kind → Cell → Row
 optional n k c = row n k (Some c)
+
+-- the value of a text, and of any value, that may be missing
+abbrev pub text_or_none : Option (List ℕ) → Cell
+text_or_none None = none
+text_or_none (Some s) = text s
+
+abbrev pub value_or_none : Option Data → Cell
+value_or_none None = none
+value_or_none (Some d) = value d

@@ -1,5 +1,5 @@
 -- Reading a message from its bytes, with the first fault that is met.
-use Rattle.std.specs.Prelude.{◌≡◌, ℕ, ℤ, pos, List, [], ◌∷◌, length, take, Bool, true, false, ◌&&◌, if◌then◌else◌, nat_lt, nat_le, int_le, Option, Some, None, option_map, option_and_then, is_some, Result, Ok, Err}
+use Rattle.std.specs.Prelude.{◌≡◌, ◌⊎◌, ℕ, ℤ, pos, List, [], ◌∷◌, ◌++◌, length, take, Bool, true, false, ◌&&◌, if◌then◌else◌, nat_lt, nat_le, int_le, Option, Some, None, option_map, option_and_then, is_some, Result, Ok, Err}
 use Rattle.std.specs.Int.{int_max}
 use Rattle.std.specs.Str.{is_utf8}
 use Rattle.std.specs.Str.Lossy.{utf8_valid_len}
@@ -27,11 +27,7 @@ found r = r
 
 -- What a call answered, with its value seen by view, is what reading gives, unless memory ran out.
 abbrev pub Fails : {Y : Type 0} → MessageFault → Result Y MessageFault → Type 0
-Fails faults.NoMemory given = Unit {0}
-Fails faults.NotJson given = given ≡ Err faults.NotJson
-Fails faults.WrongShape given = given ≡ Err faults.WrongShape
-Fails faults.TooLong given = given ≡ Err faults.TooLong
-Fails (faults.Member which) given = given ≡ Err (faults.Member which)
+Fails e given = (e ≡ faults.NoMemory) ⊎ (given ≡ Err e)
 
 abbrev pub Gives : {X Y : Type 0} → (X → Y) → Result X MessageFault → Result Y MessageFault → Type 0
 Gives view (Ok x) given = given ≡ Ok (view x)
@@ -77,12 +73,15 @@ found_or missing kind (Some d) = read_as kind d
 unfoldable pub cell_at : Row → Data → Result Cell MessageFault
 cell_at row d = or_fault (faults.Member row.name) (found_or row.missing row.kind (present row.name d))
 
-abbrev pub cells_at : List Row → Data → Result (List Cell) MessageFault
-cells_at [] d = Ok []
-cells_at (row ∷ rows) d = do
+-- the values of the rows, behind those of the rows before them
+abbrev pub cells_from : List Cell → List Row → Data → Result (List Cell) MessageFault
+cells_from before [] d = Ok before
+cells_from before (row ∷ rows) d = do
   c ← cell_at row d
-  cs ← cells_at rows d
-  Ok (c ∷ cs)
+  cells_from (before ++ c ∷ []) rows d
+
+abbrev pub cells_at : List Row → Data → Result (List Cell) MessageFault
+cells_at rows d = cells_from [] rows d
 
 -- ---- a body
 

@@ -5,6 +5,9 @@ mod body;
 mod fault;
 mod kill;
 mod member;
+mod run;
+mod text_member;
 
 pub use fault::MessageFault;
 pub use kill::{KillMessage, read_kill};
+pub use run::{RunMessage, read_run};

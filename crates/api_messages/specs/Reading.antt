@@ -74,7 +74,7 @@ unfoldable pub cell_at : Row → Data → Result Cell MessageFault
 cell_at row d = or_fault (faults.Member row.name) (found_or row.missing row.kind (present row.name d))
 
 -- the values of the rows, behind those of the rows before them
-abbrev pub cells_from : List Cell → List Row → Data → Result (List Cell) MessageFault
+unfoldable pub cells_from : List Cell → List Row → Data → Result (List Cell) MessageFault
 cells_from before [] d = Ok before
 cells_from before (row ∷ rows) d = do
   c ← cell_at row d

@@ -3,11 +3,12 @@ use Rattle.std.specs.Prelude.{◌≡◌, ◌⊎◌, ℕ, ℤ, pos, List, [], ◌
 use Rattle.std.specs.Int.{int_max}
 use Rattle.std.specs.Str.{is_utf8}
 use Rattle.std.specs.Str.Lossy.{utf8_valid_len}
-use Rattle.serde_json.specs.Data.{Data}
-use Rattle.serde_json.specs.Find.{get, as_null, as_number, as_i64, as_str, as_bool, as_object}
+use Rattle.serde_json.specs.Data.{Data, Items, no_items, item}
+use Rattle.serde_json.specs.Find.{get, as_null, as_number, as_i64, as_str, as_bool, as_array, as_object}
 use Rattle.serde_json.specs.Read.{read}
 use Rattle.api_messages.specs.Members.{Cell, int, text, bool, value, Kind, whole, not_negative, text_within, any_text, cut_text, truth, any_value, Row}
-use Rattle.api_messages.specs.Meaning.{most_bytes}
+use Rattle.api_messages.specs.Meaning.{most_bytes, most_items}
+use Rattle.api_messages.specs.Tables.{item_rows}
 use Rattle.api_messages.specs.declared.fault.MessageFault.{MessageFault}
 use Rattle.api_messages.specs.declared.fault.MessageFault.TheVariants as faults
 
@@ -104,3 +105,36 @@ unfoldable pub message_at : List Row → List ℕ → Result (List Cell) Message
 message_at rows bytes = do
   d ← object_at bytes
   cells_at rows d
+
+-- ---- callbacks
+
+abbrev pub list_of : Items → List Data
+list_of no_items = []
+list_of (item d ds) = d ∷ list_of ds
+
+abbrev pub all_objects : List Data → Bool
+all_objects [] = true
+all_objects (d ∷ ds) = is_some (as_object d) && all_objects ds
+
+-- the values of the items, behind those of the items before them
+unfoldable pub items_from : List (List Cell) → List Data → Result (List (List Cell)) MessageFault
+items_from before [] = Ok before
+items_from before (d ∷ ds) = do
+  cs ← cells_at item_rows d
+  items_from (before ++ cs ∷ []) ds
+
+abbrev pub items_at : List Data → Result (List (List Cell)) MessageFault
+items_at ds = items_from [] ds
+
+abbrev pub array_in : Data → Result (List Data) MessageFault
+array_in d = or_fault faults.WrongShape (option_map list_of (as_array d))
+
+abbrev pub results_in : List Data → Result (List (List Cell)) MessageFault
+results_in ds = if all_objects ds then (if nat_lt most_items (length ds) then Err faults.TooLong else items_at ds) else Err faults.WrongShape
+
+-- the values of the rows of each item
+unfoldable pub callbacks_at : List ℕ → Result (List (List Cell)) MessageFault
+callbacks_at bytes = do
+  d ← value_at bytes
+  ds ← array_in d
+  results_in ds

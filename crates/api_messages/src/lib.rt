@@ -2,12 +2,27 @@
 #![tactic(auto)]
 
 mod body;
+mod callbacks;
 mod fault;
+mod idle_beat;
 mod kill;
+mod log;
+mod log_answer;
+mod manage;
 mod member;
+mod registry;
+mod returned;
 mod run;
 mod text_member;
 
+pub use body::MOST_BYTES;
+pub use callbacks::{MOST_ITEMS, MOST_RESULT_BYTES, read_callbacks};
 pub use fault::MessageFault;
+pub use idle_beat::{IdleBeatMessage, read_idle_beat};
 pub use kill::{KillMessage, read_kill};
+pub use log::{LogMessage, read_log};
+pub use log_answer::{LogAnswer, read_log_answer};
+pub use manage::{ManageMessage, read_manage_body};
+pub use registry::{RegistryMessage, read_registry};
+pub use returned::{ReturnMessage, read_return};
 pub use run::{RunMessage, read_run};

@@ -7,7 +7,7 @@ ghost use Rattle.api_messages.specs.Tables.{count, signed, seconds, milliseconds
 ghost use Rattle.api_messages.specs.Reading.{Gives, Fails, found, whole_in, present, cell_at};
 
 use crate::fault::MessageFault;
-use job_values::{JobId, LogId, Text};
+use job_values::{JobId, LogId, LogMoment, Text};
 use serde_json::Value;
 use std::alloc::Global;
 
@@ -146,9 +146,25 @@ pub(crate) fn seconds(
 
 /// A number of 64 bits, a negative one read as 0, and 0 for a missing one.
 pub(crate) fn milliseconds(alloc: Global, object: &Value, name: &str) -> Result<i64, MessageFault>
-    ensures { Gives int result (cell_at (optional name.now milliseconds (int (pos 0))) (view object.now)) }
+    ensures value { Gives int result (cell_at (optional name.now milliseconds (int (pos 0))) (view object.now)) }
+    ensures low { IfOk result (λ z. pos 0 ≤ℤ z) }
 {
     amount(alloc, object, name, i64::MIN, i64::MAX, 0)
+}
+
+/// A moment of a log, a negative one read as 0, and 0 for a missing one.
+pub(crate) fn log_moment(
+    alloc: Global,
+    object: &Value,
+    name: &str,
+) -> Result<LogMoment, MessageFault>
+    ensures { Gives (λ n. int (pos n)) result (cell_at (optional name.now milliseconds (int (pos 0))) (view object.now)) }
+{
+    let n = milliseconds(alloc, object, name)?;
+    match LogMoment::new(n as u64) {
+        Some(moment) => Ok(moment),
+        None => unreachable!(),
+    }
 }
 
 /// The required `jobId`.

@@ -1,5 +1,5 @@
 //! The members of an object that are texts, true or false, or any value.
-ghost use Rattle.std.specs.Prelude.{◌≡◌, ◌≤◌, [], Some, Ok, option_map};
+ghost use Rattle.std.specs.Prelude.{◌≡◌, ◌≤◌, [], length, Some, Ok, IfOk, option_map};
 ghost use Rattle.serde_json.specs.View.{view};
 ghost use Rattle.api_messages.specs.Members.{Cell, text, none, bool as truth_cell, text_within, any_text, cut_text, truth, any_value, required, optional, text_or_none, value_or_none};
 ghost use Rattle.api_messages.specs.Reading.{Gives, found, cut as cut_of, cell_at};
@@ -11,7 +11,8 @@ use serde_json::Value;
 use std::alloc::Global;
 
 fn copied(alloc: Global, from: &str) -> Result<Text, MessageFault>
-    ensures { Gives text result (found (Ok (text from.now))) }
+    ensures value { Gives text result (found (Ok (text from.now))) }
+    ensures same { IfOk result (λ t. t ≡ from.now) }
 {
     match Text::copied(alloc, from) {
         Ok(own) => Ok(own),
@@ -22,7 +23,8 @@ fn copied(alloc: Global, from: &str) -> Result<Text, MessageFault>
 /// The text where it fits, else its longest front of whole characters that fits.
 #[tactic(auto, unfolding(crate::specs::Reading::cut))]
 fn cut(from: &str, most: usize) -> &str
-    ensures { result.now ≡ cut_of most from.now }
+    ensures value { result.now ≡ cut_of most from.now }
+    ensures fits { length result.now ≤ most }
 {
     if from.len() <= most {
         return from;
@@ -79,7 +81,8 @@ pub(crate) fn cut_text(
     name: &str,
     most: usize,
 ) -> Result<Text, MessageFault>
-    ensures { Gives text result (cell_at (optional name.now (cut_text most) (text [])) (view object.now)) }
+    ensures value { Gives text result (cell_at (optional name.now (cut_text most) (text [])) (view object.now)) }
+    ensures fits { IfOk result (λ t. length t ≤ most) }
 {
     match present(object, name) {
         Some(value) => match value.as_str() {

@@ -49,26 +49,26 @@ returns-in_err-glue_type c =
 pub returns-in_err-glue_updatetime : goal.returns-in_err-glue_updatetime
 returns-in_err-glue_updatetime c =
     let p = err_from_is_err_and c.from_residual-in_err-glue_updatetime.result c.from_residual-in_err-glue_updatetime.ensures.1 in
-    rw (p.1, p.2) (later _ _ _ _ _ _ c.in_ok-broadcast_index.ensures (later _ _ _ _ _ _ c.in_ok-broadcast_total.ensures (later _ _ _ _ _ _ c.in_ok-executor_block_strategy.ensures (later _ _ _ _ _ _ c.in_ok-executor_handler.ensures (later _ _ _ _ _ _ c.in_ok-executor_params.ensures (later _ _ _ _ _ _ c.in_ok-executor_timeout.ensures (later _ _ _ _ _ _ c.in_ok-glue_source.ensures (later _ _ _ _ _ _ c.in_ok-glue_type.ensures (here _ _ _ _ _ c.in_err-glue_updatetime.ensures)))))))))
+    rw (p.1, p.2) (later _ _ _ _ _ _ c.in_ok-broadcast_index.ensures (later _ _ _ _ _ _ c.in_ok-broadcast_total.ensures (later _ _ _ _ _ _ c.in_ok-executor_block_strategy.ensures (later _ _ _ _ _ _ c.in_ok-executor_handler.ensures (later _ _ _ _ _ _ c.in_ok-executor_params.ensures (later _ _ _ _ _ _ c.in_ok-executor_timeout.ensures (later _ _ _ _ _ _ c.in_ok-glue_source.ensures (later _ _ _ _ _ _ c.in_ok-glue_type.ensures (here _ _ _ _ _ c.in_err-glue_updatetime.ensures.value)))))))))
 
 pub returns-in_err-job_id : goal.returns-in_err-job_id
 returns-in_err-job_id c =
     let p = err_from_is_err_and c.from_residual-in_err-job_id.result c.from_residual-in_err-job_id.ensures.1 in
-    rw (p.1, p.2) (later _ _ _ _ _ _ c.in_ok-broadcast_index.ensures (later _ _ _ _ _ _ c.in_ok-broadcast_total.ensures (later _ _ _ _ _ _ c.in_ok-executor_block_strategy.ensures (later _ _ _ _ _ _ c.in_ok-executor_handler.ensures (later _ _ _ _ _ _ c.in_ok-executor_params.ensures (later _ _ _ _ _ _ c.in_ok-executor_timeout.ensures (later _ _ _ _ _ _ c.in_ok-glue_source.ensures (later _ _ _ _ _ _ c.in_ok-glue_type.ensures (later _ _ _ _ _ _ c.in_ok-glue_updatetime.ensures (here _ _ _ _ _ c.in_err-job_id.ensures))))))))))
+    rw (p.1, p.2) (later _ _ _ _ _ _ c.in_ok-broadcast_index.ensures (later _ _ _ _ _ _ c.in_ok-broadcast_total.ensures (later _ _ _ _ _ _ c.in_ok-executor_block_strategy.ensures (later _ _ _ _ _ _ c.in_ok-executor_handler.ensures (later _ _ _ _ _ _ c.in_ok-executor_params.ensures (later _ _ _ _ _ _ c.in_ok-executor_timeout.ensures (later _ _ _ _ _ _ c.in_ok-glue_source.ensures (later _ _ _ _ _ _ c.in_ok-glue_type.ensures (later _ _ _ _ _ _ c.in_ok-glue_updatetime.ensures.value (here _ _ _ _ _ c.in_err-job_id.ensures))))))))))
 
 pub returns-in_err-log_date_time : goal.returns-in_err-log_date_time
 returns-in_err-log_date_time c =
     let p = err_from_is_err_and c.from_residual-in_err-log_date_time.result c.from_residual-in_err-log_date_time.ensures.1 in
-    rw (p.1, p.2) (later _ _ _ _ _ _ c.in_ok-broadcast_index.ensures (later _ _ _ _ _ _ c.in_ok-broadcast_total.ensures (later _ _ _ _ _ _ c.in_ok-executor_block_strategy.ensures (later _ _ _ _ _ _ c.in_ok-executor_handler.ensures (later _ _ _ _ _ _ c.in_ok-executor_params.ensures (later _ _ _ _ _ _ c.in_ok-executor_timeout.ensures (later _ _ _ _ _ _ c.in_ok-glue_source.ensures (later _ _ _ _ _ _ c.in_ok-glue_type.ensures (later _ _ _ _ _ _ c.in_ok-glue_updatetime.ensures (later _ _ _ _ _ _ c.in_ok-job_id.ensures (here _ _ _ _ _ c.in_err-log_date_time.ensures)))))))))))
+    rw (p.1, p.2) (later _ _ _ _ _ _ c.in_ok-broadcast_index.ensures (later _ _ _ _ _ _ c.in_ok-broadcast_total.ensures (later _ _ _ _ _ _ c.in_ok-executor_block_strategy.ensures (later _ _ _ _ _ _ c.in_ok-executor_handler.ensures (later _ _ _ _ _ _ c.in_ok-executor_params.ensures (later _ _ _ _ _ _ c.in_ok-executor_timeout.ensures (later _ _ _ _ _ _ c.in_ok-glue_source.ensures (later _ _ _ _ _ _ c.in_ok-glue_type.ensures (later _ _ _ _ _ _ c.in_ok-glue_updatetime.ensures.value (later _ _ _ _ _ _ c.in_ok-job_id.ensures (here _ _ _ _ _ c.in_err-log_date_time.ensures.value)))))))))))
 
 pub returns-in_err-log_id : goal.returns-in_err-log_id
 returns-in_err-log_id c =
     let p = err_from_is_err_and c.from_residual-in_err-log_id.result c.from_residual-in_err-log_id.ensures.1 in
-    rw (p.1, p.2) (later _ _ _ _ _ _ c.in_ok-broadcast_index.ensures (later _ _ _ _ _ _ c.in_ok-broadcast_total.ensures (later _ _ _ _ _ _ c.in_ok-executor_block_strategy.ensures (later _ _ _ _ _ _ c.in_ok-executor_handler.ensures (later _ _ _ _ _ _ c.in_ok-executor_params.ensures (later _ _ _ _ _ _ c.in_ok-executor_timeout.ensures (later _ _ _ _ _ _ c.in_ok-glue_source.ensures (later _ _ _ _ _ _ c.in_ok-glue_type.ensures (later _ _ _ _ _ _ c.in_ok-glue_updatetime.ensures (later _ _ _ _ _ _ c.in_ok-job_id.ensures (later _ _ _ _ _ _ c.in_ok-log_date_time.ensures (here _ _ _ _ _ c.in_err-log_id.ensures))))))))))))
+    rw (p.1, p.2) (later _ _ _ _ _ _ c.in_ok-broadcast_index.ensures (later _ _ _ _ _ _ c.in_ok-broadcast_total.ensures (later _ _ _ _ _ _ c.in_ok-executor_block_strategy.ensures (later _ _ _ _ _ _ c.in_ok-executor_handler.ensures (later _ _ _ _ _ _ c.in_ok-executor_params.ensures (later _ _ _ _ _ _ c.in_ok-executor_timeout.ensures (later _ _ _ _ _ _ c.in_ok-glue_source.ensures (later _ _ _ _ _ _ c.in_ok-glue_type.ensures (later _ _ _ _ _ _ c.in_ok-glue_updatetime.ensures.value (later _ _ _ _ _ _ c.in_ok-job_id.ensures (later _ _ _ _ _ _ c.in_ok-log_date_time.ensures.value (here _ _ _ _ _ c.in_err-log_id.ensures))))))))))))
 
 pub returns : goal.returns
 returns c =
     let executor_timeout : SFits w32 c.in_ok-executor_timeout.executor_timeout = search rules in
     let glue_updatetime : SFits w64 c.in_ok-glue_updatetime.glue_updatetime = search rules in
     let log_date_time : SFits w64 c.in_ok-log_date_time.log_date_time = search rules in
-    simp to_z-of_z (next _ _ _ _ _ _ c.in_ok-broadcast_index.ensures (next _ _ _ _ _ _ c.in_ok-broadcast_total.ensures (next _ _ _ _ _ _ c.in_ok-executor_block_strategy.ensures (next _ _ _ _ _ _ c.in_ok-executor_handler.ensures (next _ _ _ _ _ _ c.in_ok-executor_params.ensures (next _ _ _ _ _ _ c.in_ok-executor_timeout.ensures (next _ _ _ _ _ _ c.in_ok-glue_source.ensures (next _ _ _ _ _ _ c.in_ok-glue_type.ensures (next _ _ _ _ _ _ c.in_ok-glue_updatetime.ensures (next _ _ _ _ _ _ c.in_ok-job_id.ensures (next _ _ _ _ _ _ c.in_ok-log_date_time.ensures (next _ _ _ _ _ _ c.in_ok-log_id.ensures (done _ _)))))))))))))
+    simp to_z-of_z (next _ _ _ _ _ _ c.in_ok-broadcast_index.ensures (next _ _ _ _ _ _ c.in_ok-broadcast_total.ensures (next _ _ _ _ _ _ c.in_ok-executor_block_strategy.ensures (next _ _ _ _ _ _ c.in_ok-executor_handler.ensures (next _ _ _ _ _ _ c.in_ok-executor_params.ensures (next _ _ _ _ _ _ c.in_ok-executor_timeout.ensures (next _ _ _ _ _ _ c.in_ok-glue_source.ensures (next _ _ _ _ _ _ c.in_ok-glue_type.ensures (next _ _ _ _ _ _ c.in_ok-glue_updatetime.ensures.value (next _ _ _ _ _ _ c.in_ok-job_id.ensures (next _ _ _ _ _ _ c.in_ok-log_date_time.ensures.value (next _ _ _ _ _ _ c.in_ok-log_id.ensures (done _ _)))))))))))))

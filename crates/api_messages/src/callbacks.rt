@@ -1,0 +1,73 @@
+//! The messages of `callback`: an array of results.
+ghost use Rattle.std.specs.Prelude.{◌≡◌, map, [], IfSome};
+ghost use Rattle.serde_json.specs.Find.{as_array};
+ghost use Rattle.serde_json.specs.View.{view};
+ghost use Rattle.api_messages.specs.Tables.{item_rows};
+ghost use Rattle.api_messages.specs.Reading.{Gives, cells_at, all_objects, items_at, items_from, callbacks_at};
+ghost use Rattle.api_messages.specs.Seen.{item_cells};
+
+use crate::body::value_of;
+use crate::fault::MessageFault;
+use crate::member::{log_id, log_moment, signed};
+use crate::text_member::cut_text;
+use job_values::{CallbackItem, ResultText, Seq};
+use serde_json::Value;
+use std::alloc::Global;
+
+/// The most results of one callback.
+pub const MOST_ITEMS: usize = 1000;
+
+/// The most bytes of a result's text; a longer one is cut.
+pub const MOST_RESULT_BYTES: usize = 15_000;
+
+fn item_of(alloc: Global, object: &Value) -> Result<CallbackItem, MessageFault>
+    ensures { Gives item_cells result (cells_at item_rows (view object.now)) }
+{
+    let code = signed(alloc, object, "handleCode")?;
+    let msg = cut_text(alloc, object, "handleMsg", MOST_RESULT_BYTES)?;
+    let log_moment = log_moment(alloc, object, "logDateTim")?;
+    let log = log_id(alloc, object)?;
+    Ok(CallbackItem {
+        log,
+        log_moment,
+        code,
+        msg: ResultText::of(msg),
+    })
+}
+
+fn all_objects(values: &[Value]) -> bool
+    ensures { result ≡ all_objects (map view values.now) }
+{
+    values.iter().all(|value| value.is_object())
+}
+
+fn items_of(alloc: Global, values: &[Value]) -> Result<Vec<CallbackItem>, MessageFault>
+    ensures { Gives (λ v. map item_cells v.items) result (items_at (map view values.now)) }
+{
+    let mut items =
+        Vec::with_capacity(alloc, values.len()).map_err(|_| MessageFault::NoMemory)?;
+    for value in values {
+        let item = item_of(alloc, value)?;
+        items.push(item).map_err(|_| MessageFault::NoMemory)?;
+    }
+    Ok(items)
+}
+
+/// The results of a body, or its first fault.
+#[tactic(auto, unfolding(crate::specs::Reading::callbacks_at))]
+pub fn read_callbacks(alloc: Global, bytes: &[u8]) -> Result<Seq<CallbackItem>, MessageFault>
+    ensures { Gives (map item_cells) result (callbacks_at bytes.now) }
+{
+    let value = value_of(alloc, bytes)?;
+    let Some(values) = value.as_array() else {
+        return Err(MessageFault::WrongShape);
+    };
+    if !all_objects(values) {
+        return Err(MessageFault::WrongShape);
+    }
+    if values.len() > MOST_ITEMS {
+        return Err(MessageFault::TooLong);
+    }
+    let items = items_of(alloc, values)?;
+    Ok(Seq::of(items))
+}

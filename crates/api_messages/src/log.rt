@@ -1,0 +1,44 @@
+//! The messages of `log`.
+ghost use Rattle.serde_json.specs.View.{view};
+ghost use Rattle.api_messages.specs.Tables.{log_rows};
+ghost use Rattle.api_messages.specs.Reading.{Gives, cells_at, message_at};
+ghost use Rattle.api_messages.specs.Seen.{log_cells};
+
+use crate::body::object_of;
+use crate::fault::MessageFault;
+use crate::member::{log_id, milliseconds, seconds};
+use job_values::LogId;
+use serde_json::Value;
+use std::alloc::Global;
+
+/// Asks an executor for the lines of a log.
+#[derive(Clone, Copy, Debug)]
+pub struct LogMessage {
+    /// The first line, counted from 1.
+    pub from_line_num: i32,
+    /// The moment of the log, in milliseconds.
+    pub log_date_tim: i64,
+    pub log_id: LogId,
+}
+
+fn log_of(alloc: Global, object: &Value) -> Result<LogMessage, MessageFault>
+    ensures { Gives log_cells result (cells_at log_rows (view object.now)) }
+{
+    let from_line_num = seconds(alloc, object, "fromLineNum", 1)?;
+    let log_date_tim = milliseconds(alloc, object, "logDateTim")?;
+    let log_id = log_id(alloc, object)?;
+    Ok(LogMessage {
+        from_line_num,
+        log_date_tim,
+        log_id,
+    })
+}
+
+/// The message of a body, or its first fault.
+#[tactic(auto, unfolding(crate::specs::Reading::message_at))]
+pub fn read_log(alloc: Global, bytes: &[u8]) -> Result<LogMessage, MessageFault>
+    ensures { Gives log_cells result (message_at log_rows bytes.now) }
+{
+    let object = object_of(alloc, bytes)?;
+    log_of(alloc, &object)
+}

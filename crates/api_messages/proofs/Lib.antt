@@ -1,3 +1,4 @@
 pub mod Bodies
 pub mod Cuts
 pub mod Rows
+pub mod Items

@@ -1,6 +1,7 @@
 -- Reading a message from its bytes, with the first fault that is met.
 use Rattle.std.specs.Prelude.{◌≡◌, ◌⊎◌, ℕ, ℤ, pos, List, [], ◌∷◌, ◌++◌, length, take, Bool, true, false, ◌&&◌, if◌then◌else◌, nat_lt, nat_le, int_le, Option, Some, None, option_map, option_and_then, is_some, Result, Ok, Err}
 use Rattle.std.specs.Int.{int_max}
+use Rattle.std.specs.List.{list_all}
 use Rattle.std.specs.Str.{is_utf8}
 use Rattle.std.specs.Str.Lossy.{utf8_valid_len}
 use Rattle.serde_json.specs.Data.{Data, Items, no_items, item}
@@ -92,8 +93,11 @@ json_at bytes = if is_utf8 bytes then read bytes else None
 unfoldable pub value_at : List ℕ → Result Data MessageFault
 value_at bytes = if nat_lt most_bytes (length bytes) then Err faults.TooLong else or_fault faults.NotJson (json_at bytes)
 
+abbrev pub is_object : Data → Bool
+is_object d = is_some (as_object d)
+
 abbrev pub as_message : Data → Result Data MessageFault
-as_message d = if is_some (as_object d) then Ok d else Err faults.WrongShape
+as_message d = if is_object d then Ok d else Err faults.WrongShape
 
 unfoldable pub object_at : List ℕ → Result Data MessageFault
 object_at bytes = do
@@ -113,8 +117,7 @@ list_of no_items = []
 list_of (item d ds) = d ∷ list_of ds
 
 abbrev pub all_objects : List Data → Bool
-all_objects [] = true
-all_objects (d ∷ ds) = is_some (as_object d) && all_objects ds
+all_objects ds = list_all is_object ds
 
 -- the values of the items, behind those of the items before them
 unfoldable pub items_from : List (List Cell) → List Data → Result (List (List Cell)) MessageFault

@@ -1,9 +1,9 @@
 //! The messages of `callback`: an array of results.
-ghost use Rattle.std.specs.Prelude.{◌≡◌, map, [], IfSome};
-ghost use Rattle.serde_json.specs.Find.{as_array};
+ghost use Rattle.std.specs.Prelude.{◌≡◌, map};
+ghost use Rattle.std.specs.List.{list_all};
 ghost use Rattle.serde_json.specs.View.{view};
 ghost use Rattle.api_messages.specs.Tables.{item_rows};
-ghost use Rattle.api_messages.specs.Reading.{Gives, cells_at, all_objects, items_at, items_from, callbacks_at};
+ghost use Rattle.api_messages.specs.Reading.{Gives, cells_at, is_object, items_at, results_in, callbacks_at};
 ghost use Rattle.api_messages.specs.Seen.{item_cells};
 
 use crate::body::value_of;
@@ -36,7 +36,7 @@ fn item_of(alloc: Global, object: &Value) -> Result<CallbackItem, MessageFault>
 }
 
 fn all_objects(values: &[Value]) -> bool
-    ensures { result ≡ all_objects (map view values.now) }
+    ensures { result ≡ list_all (λ value. is_object (view value)) values.now }
 {
     values.iter().all(|value| value.is_object())
 }
@@ -44,24 +44,17 @@ fn all_objects(values: &[Value]) -> bool
 fn items_of(alloc: Global, values: &[Value]) -> Result<Vec<CallbackItem>, MessageFault>
     ensures { Gives (λ v. map item_cells v.items) result (items_at (map view values.now)) }
 {
-    let mut items =
-        Vec::with_capacity(alloc, values.len()).map_err(|_| MessageFault::NoMemory)?;
+    let mut items = Vec::with_capacity(alloc, values.len())?;
     for value in values {
         let item = item_of(alloc, value)?;
-        items.push(item).map_err(|_| MessageFault::NoMemory)?;
+        items.push(item)?;
     }
     Ok(items)
 }
 
-/// The results of a body, or its first fault.
-#[tactic(auto, unfolding(crate::specs::Reading::callbacks_at))]
-pub fn read_callbacks(alloc: Global, bytes: &[u8]) -> Result<Seq<CallbackItem>, MessageFault>
-    ensures { Gives (map item_cells) result (callbacks_at bytes.now) }
+fn results_of(alloc: Global, values: &[Value]) -> Result<Seq<CallbackItem>, MessageFault>
+    ensures { Gives (map item_cells) result (results_in (map view values.now)) }
 {
-    let value = value_of(alloc, bytes)?;
-    let Some(values) = value.as_array() else {
-        return Err(MessageFault::WrongShape);
-    };
     if !all_objects(values) {
         return Err(MessageFault::WrongShape);
     }
@@ -70,4 +63,16 @@ pub fn read_callbacks(alloc: Global, bytes: &[u8]) -> Result<Seq<CallbackItem>, 
     }
     let items = items_of(alloc, values)?;
     Ok(Seq::of(items))
+}
+
+/// The results of a body, or its first fault.
+#[tactic(auto, unfolding(crate::specs::Reading::callbacks_at))]
+pub fn read_callbacks(alloc: Global, bytes: &[u8]) -> Result<Seq<CallbackItem>, MessageFault>
+    ensures { Gives (map item_cells) result (callbacks_at bytes.now) }
+{
+    let value = value_of(alloc, bytes)?;
+    match value.as_array() {
+        Some(values) => results_of(alloc, values),
+        None => Err(MessageFault::WrongShape),
+    }
 }

@@ -1,5 +1,8 @@
 //! Why a body is no message.
 ghost use Rattle.std.specs.Prelude.{◌≡◌};
+ghost use Rattle.api_messages.specs.declared.fault.MessageFault.TheVariants as faults;
+
+use std::alloc::{AllocError, AllocFailed};
 
 use job_values::Text;
 use thiserror::Error;
@@ -22,4 +25,20 @@ pub enum MessageFault {
     /// Memory ran out.
     #[error("no memory")]
     NoMemory,
+}
+
+impl From<AllocError> for MessageFault {
+    ghost from_gives = { λ _ e. e ≡ faults.NoMemory };
+
+    fn from(_refused: AllocError) -> MessageFault {
+        MessageFault::NoMemory
+    }
+}
+
+impl<T: Drop> From<AllocFailed<T>> for MessageFault {
+    ghost from_gives = { λ _ e. e ≡ faults.NoMemory };
+
+    fn from(_refused: AllocFailed<T>) -> MessageFault {
+        MessageFault::NoMemory
+    }
 }

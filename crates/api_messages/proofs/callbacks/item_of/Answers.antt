@@ -29,4 +29,4 @@ returns-in_err-log c =
 pub returns : goal.returns
 returns c =
     let code : SFits w32 c.in_ok-code.code = search rules in
-    simp to_z-of_z (next _ _ _ _ _ _ c.in_ok-code.ensures (next _ _ _ _ _ _ c.in_ok-msg.ensures.value (next _ _ _ _ _ _ c.in_ok-log_moment.ensures (next _ _ _ _ _ _ c.in_ok-log.ensures (done _ _)))))
+    simp (to_z-of_z, c.of.ensures) (next _ _ _ _ _ _ c.in_ok-code.ensures (next _ _ _ _ _ _ c.in_ok-msg.ensures.value (next _ _ _ _ _ _ c.in_ok-log_moment.ensures (next _ _ _ _ _ _ c.in_ok-log.ensures (done _ _)))))

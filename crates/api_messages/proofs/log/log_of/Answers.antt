@@ -25,4 +25,4 @@ pub returns : goal.returns
 returns c =
     let from_line_num : SFits w32 c.in_ok-from_line_num.from_line_num = search rules in
     let log_date_tim : SFits w64 c.in_ok-log_date_tim.log_date_tim = search rules in
-    simp to_z-of_z (next _ _ _ _ _ _ c.in_ok-from_line_num.ensures (next _ _ _ _ _ _ c.in_ok-log_date_tim.ensures.value (next _ _ _ _ _ _ c.in_ok-log_id.ensures (done _ _))))
+    simp (to_z-of_z) (next _ _ _ _ _ _ c.in_ok-from_line_num.ensures (next _ _ _ _ _ _ c.in_ok-log_date_tim.ensures.value (next _ _ _ _ _ _ c.in_ok-log_id.ensures (done _ _))))

@@ -30,4 +30,4 @@ pub returns : goal.returns
 returns c =
     let from_line_num : SFits w32 c.in_ok-from_line_num.from_line_num = search rules in
     let to_line_num : SFits w32 c.in_ok-to_line_num.to_line_num = search rules in
-    simp to_z-of_z (next _ _ _ _ _ _ c.in_ok-from_line_num.ensures (next _ _ _ _ _ _ c.in_ok-is_end.ensures (next _ _ _ _ _ _ c.in_ok-log_content.ensures (next _ _ _ _ _ _ c.in_ok-to_line_num.ensures (done _ _)))))
+    simp (to_z-of_z) (next _ _ _ _ _ _ c.in_ok-from_line_num.ensures (next _ _ _ _ _ _ c.in_ok-is_end.ensures (next _ _ _ _ _ _ c.in_ok-log_content.ensures (next _ _ _ _ _ _ c.in_ok-to_line_num.ensures (done _ _)))))

@@ -24,4 +24,4 @@ returns-in_err-msg c =
 pub returns : goal.returns
 returns c =
     let code : SFits w32 c.in_ok-code.code = search rules in
-    simp to_z-of_z (next _ _ _ _ _ _ c.in_ok-code.ensures (next _ _ _ _ _ _ c.in_ok-content.ensures (next _ _ _ _ _ _ c.in_ok-msg.ensures (done _ _))))
+    simp (to_z-of_z) (next _ _ _ _ _ _ c.in_ok-code.ensures (next _ _ _ _ _ _ c.in_ok-content.ensures (next _ _ _ _ _ _ c.in_ok-msg.ensures (done _ _))))

@@ -71,4 +71,4 @@ returns c =
     let executor_timeout : SFits w32 c.in_ok-executor_timeout.executor_timeout = search rules in
     let glue_updatetime : SFits w64 c.in_ok-glue_updatetime.glue_updatetime = search rules in
     let log_date_time : SFits w64 c.in_ok-log_date_time.log_date_time = search rules in
-    simp to_z-of_z (next _ _ _ _ _ _ c.in_ok-broadcast_index.ensures (next _ _ _ _ _ _ c.in_ok-broadcast_total.ensures (next _ _ _ _ _ _ c.in_ok-executor_block_strategy.ensures (next _ _ _ _ _ _ c.in_ok-executor_handler.ensures (next _ _ _ _ _ _ c.in_ok-executor_params.ensures (next _ _ _ _ _ _ c.in_ok-executor_timeout.ensures (next _ _ _ _ _ _ c.in_ok-glue_source.ensures (next _ _ _ _ _ _ c.in_ok-glue_type.ensures (next _ _ _ _ _ _ c.in_ok-glue_updatetime.ensures.value (next _ _ _ _ _ _ c.in_ok-job_id.ensures (next _ _ _ _ _ _ c.in_ok-log_date_time.ensures.value (next _ _ _ _ _ _ c.in_ok-log_id.ensures (done _ _)))))))))))))
+    simp (to_z-of_z) (next _ _ _ _ _ _ c.in_ok-broadcast_index.ensures (next _ _ _ _ _ _ c.in_ok-broadcast_total.ensures (next _ _ _ _ _ _ c.in_ok-executor_block_strategy.ensures (next _ _ _ _ _ _ c.in_ok-executor_handler.ensures (next _ _ _ _ _ _ c.in_ok-executor_params.ensures (next _ _ _ _ _ _ c.in_ok-executor_timeout.ensures (next _ _ _ _ _ _ c.in_ok-glue_source.ensures (next _ _ _ _ _ _ c.in_ok-glue_type.ensures (next _ _ _ _ _ _ c.in_ok-glue_updatetime.ensures.value (next _ _ _ _ _ _ c.in_ok-job_id.ensures (next _ _ _ _ _ _ c.in_ok-log_date_time.ensures.value (next _ _ _ _ _ _ c.in_ok-log_id.ensures (done _ _)))))))))))))

@@ -2,3 +2,5 @@ pub mod Bodies
 pub mod Cuts
 pub mod Rows
 pub mod Items
+pub mod Numbers
+pub mod Again

@@ -3,3 +3,4 @@ pub mod Tables
 pub mod Meaning
 pub mod Reading
 pub mod Seen
+pub mod Writing

@@ -5,7 +5,7 @@ use Rattle.std.specs.List.{list_all}
 use Rattle.std.specs.Str.{is_utf8}
 use Rattle.std.specs.Str.Lossy.{utf8_valid_len}
 use Rattle.serde_json.specs.Data.{Data, Items, no_items, item}
-use Rattle.serde_json.specs.Find.{get, as_null, as_number, as_i64, as_str, as_bool, as_array, as_object}
+use Rattle.serde_json.specs.Find.{get, as_null, as_number, as_integer, as_str, as_bool, as_array, as_object}
 use Rattle.serde_json.specs.Read.{read}
 use Rattle.api_messages.specs.Members.{Cell, int, text, bool, value, Kind, whole, not_negative, text_within, any_text, cut_text, truth, any_value, Row}
 use Rattle.api_messages.specs.Meaning.{most_bytes, most_items}
@@ -41,7 +41,7 @@ abbrev pub within : ℤ → ℤ → ℤ → Option ℤ
 within low high z = if int_le low z && int_le z high then Some z else None
 
 abbrev pub whole_in : ℤ → ℤ → Data → Option ℤ
-whole_in low high d = option_and_then (within low high) (option_and_then as_i64 (as_number d))
+whole_in low high d = option_and_then (within low high) (option_and_then as_integer (as_number d))
 
 abbrev pub short_text : ℕ → List ℕ → Option (List ℕ)
 short_text most s = if nat_le (length s) most then Some s else None

@@ -14,6 +14,8 @@ mod registry;
 mod returned;
 mod run;
 mod text_member;
+mod token;
+mod written;
 
 pub use body::MOST_BYTES;
 pub use callbacks::{MOST_ITEMS, MOST_RESULT_BYTES, read_callbacks};
@@ -26,3 +28,4 @@ pub use manage::{ManageMessage, read_manage_body};
 pub use registry::{RegistryMessage, read_registry};
 pub use returned::{ReturnMessage, read_return};
 pub use run::{RunMessage, read_run};
+pub use token::token_ok;

@@ -1,10 +1,10 @@
 //! The members of an object, each read as its row says: what is there, and numbers.
-ghost use Rattle.std.specs.Prelude.{◌≡◌, ℤ, pos, negsuc, ◌≤ℤ◌, ◌≤◌, Some, None, Err, IfOk, IfSome, option_map, codes};
+ghost use Rattle.std.specs.Prelude.{◌≡◌, ℤ, pos, negsuc, ◌≤ℤ◌, ◌≤◌, Some, None, Err, IfOk, IfSome, option_map, option_and_then, codes};
 ghost use Rattle.std.specs.Option.{ForSome};
 ghost use Rattle.serde_json.specs.View.{view};
 ghost use Rattle.api_messages.specs.Members.{Cell, int, whole, not_negative, required, optional, row};
 ghost use Rattle.api_messages.specs.Tables.{count, signed, seconds, milliseconds, job_number, log_number};
-ghost use Rattle.api_messages.specs.Reading.{Gives, Fails, found, whole_in, present, cell_at};
+ghost use Rattle.api_messages.specs.Reading.{Gives, Fails, found, within, whole_in, present, cell_at};
 
 use crate::fault::MessageFault;
 use job_values::{JobId, LogId, LogMoment, Text};
@@ -37,13 +37,12 @@ pub(crate) fn present<'v>(object: &'v Value, name: &str) -> Option<&'v Value>
     }
 }
 
-/// The whole number from `low` to `high` that a value is.
-fn whole_in(value: &Value, low: i64, high: i64) -> Option<i64>
-    ensures value { result ≡ whole_in low high (view value.now) }
+fn within(number: Option<i64>, low: i64, high: i64) -> Option<i64>
+    ensures value { result ≡ option_and_then (within low high) number }
     ensures low { IfSome result (λ z. low ≤ℤ z) }
     ensures high { IfSome result (λ z. z ≤ℤ high) }
 {
-    match value.as_i64() {
+    match number {
         Some(n) => {
             if low <= n && n <= high {
                 Some(n)
@@ -53,6 +52,15 @@ fn whole_in(value: &Value, low: i64, high: i64) -> Option<i64>
         }
         None => None,
     }
+}
+
+/// The whole number from `low` to `high` that a value is.
+fn whole_in(value: &Value, low: i64, high: i64) -> Option<i64>
+    ensures value { result ≡ whole_in low high (view value.now) }
+    ensures low { IfSome result (λ z. low ≤ℤ z) }
+    ensures high { IfSome result (λ z. z ≤ℤ high) }
+{
+    within(value.as_i64(), low, high)
 }
 
 /// A whole number from `low` to `high`, or the default of a missing member.

@@ -1,0 +1,199 @@
+-- What was written is read again.
+use Rattle.std.proofs.Common.{◌≡◌, ◌≢◌, ℕ, suc, ◌+◌, ◌^◌, ◌<◌, ◌≤◌, max, ℤ, pos, negsuc, ◌≤ℤ◌, List, [], ◌∷◌, ◌++◌, length, Bool, true, false, cond, not, ◌&&◌, Option, Some, None, Result, Ok, Err, Ordering, Less, Equal, Greater, is_eq, refl, sym, ap, ◌∙◌, inl, inr, append_assoc, append-nil, arith, true≢false}
+use Rattle.std.specs.Prelude.{is_some, nat_le, int_le, int_lt, option_map, option_and_then}
+use Rattle.std.specs.Int.{int_max}
+use Rattle.std.specs.Ordering.{nat_cmp, match_ordering}
+use Rattle.std.specs.Cmp.Lexicographic.{slice_cmp}
+use Rattle.std.specs.Str.{IsUtf8}
+use Rattle.std.proofs.lemmas.Bool.{le-leb}
+use Rattle.std.proofs.lemmas.Bool.Decides.{nat_tests}
+use Rattle.std.proofs.lemmas.Cmp.{nat_list_cmp_total, tied_itself}
+use Rattle.std.proofs.lemmas.Int.{ints}
+use Rattle.serde_json.specs.Data.{Data, null, boolean, number, string, array, object, Members, no_members, member, depth, members_depth}
+use Rattle.serde_json.specs.Find.{get, get_member, as_null, as_number, of_integer, as_integer}
+use Rattle.serde_json.specs.Read.{read, max_depth}
+use Rattle.api_messages.specs.Members.{Cell, none, int, text, bool, value, Kind, whole, not_negative, text_within, any_text, cut_text, truth, any_value, Row}
+use Rattle.api_messages.specs.Meaning.{most_bytes}
+use Rattle.api_messages.specs.Reading.{◌>>=◌, within, whole_in, cut, read_as, not_null, present, found_or, cell_at, cells_from, cells_at, object_at, message_at}
+use Rattle.api_messages.specs.Writing.{data_of, unless_null, written, object_of, FitsKind, FitsRow, Fit}
+use Rattle.api_messages.specs.declared.fault.MessageFault.{MessageFault}
+use Rattle.api_messages.proofs.Rows.{next, done}
+use Rattle.api_messages.proofs.Bodies.{value_at-json}
+
+-- ---- names that differ
+
+abbrev pub differ : List ℕ → List ℕ → Bool
+differ a b = not (is_eq (slice_cmp nat_cmp a b)) && not (is_eq (slice_cmp nat_cmp b a))
+
+abbrev pub apart : List ℕ → List Row → Bool
+apart name [] = true
+apart name (row ∷ rows) = differ name row.name && apart name rows
+
+-- no two rows have one name
+abbrev pub all_apart : List Row → Bool
+all_apart [] = true
+all_apart (row ∷ rows) = apart row.name rows && all_apart rows
+
+both : (a b : Bool) → (a && b) ≡ true → (a ≡ true) × (b ≡ true)
+both true true e = (refl, refl)
+both true false e = absurd cc
+both false b e = absurd cc
+
+denied : (a : Bool) → not a ≡ true → a ≡ false
+denied true e = absurd cc
+denied false e = refl
+
+passed : (o : Ordering) (a b : Option Data) → is_eq o ≡ false → match_ordering o a b a ≡ a
+passed Less a b e = refl
+passed Equal a b e = absurd (true≢false e)
+passed Greater a b e = refl
+
+-- a member of another name is passed over
+skips : (q k : List ℕ) (d : Data) (ms : Members) → is_eq (slice_cmp nat_cmp q k) ≡ false → get_member q (member k d ms) ≡ get_member q ms
+skips q k d ms e = passed (slice_cmp nat_cmp q k) _ _ e
+
+finds : (k : List ℕ) (d : Data) (ms : Members) → get_member k (member k d ms) ≡ Some d
+finds k d ms = rw (tied_itself nat_list_cmp_total k) refl
+
+skips_null : (b : Bool) (q k : List ℕ) (d : Data) (ms : Members) → is_eq (slice_cmp nat_cmp q k) ≡ false → get_member q (cond b ms (member k d ms)) ≡ get_member q ms
+skips_null true q k d ms e = refl
+skips_null false q k d ms e = skips q k d ms e
+
+-- a name that no row has is not written
+missing : (name : List ℕ) (rows : List Row) (cells : List Cell) → apart name rows ≡ true → get_member name (written rows cells) ≡ None
+missing name [] cells e = refl
+missing name (row ∷ rows) [] e = refl
+missing name (row ∷ rows) (c ∷ cs) e =
+    let p = both (differ name row.name) (apart name rows) e in
+    let q = both (not (is_eq (slice_cmp nat_cmp name row.name))) _ p.0 in
+    skips_null (is_some (as_null (data_of c))) name row.name (data_of c) (written rows cs) (denied _ q.0) ∙ missing name rows cs p.1
+
+-- ---- a member of another name changes nothing
+
+kept_cell : (row : Row) (k : List ℕ) (d : Data) (ms : Members) → is_eq (slice_cmp nat_cmp row.name k) ≡ false → cell_at row (object (member k d ms)) ≡ cell_at row (object ms)
+unfolding cell_at
+kept_cell row k d ms e = rw (skips row.name k d ms e) refl
+
+bind_same : {A B : Type 0} (r : Result A MessageFault) (f g : A → Result B MessageFault) → ((x : A) → f x ≡ g x) → (r >>= f) ≡ (r >>= g)
+bind_same (Ok x) f g same = same x
+bind_same (Err e) f g same = refl
+
+kept : (before : List Cell) (rows : List Row) (k : List ℕ) (d : Data) (ms : Members) → apart k rows ≡ true → cells_from before rows (object (member k d ms)) ≡ cells_from before rows (object ms)
+unfolding cells_from
+kept before [] k d ms e = refl
+kept before (row ∷ rows) k d ms e =
+    let p = both (differ k row.name) (apart k rows) e in
+    let q = both (not (is_eq (slice_cmp nat_cmp k row.name))) _ p.0 in
+    rw (kept_cell row k d ms (denied _ q.1)) (bind_same (cell_at row (object ms)) _ _ (λ c. kept (before ++ c ∷ []) rows k d ms p.1))
+
+-- ---- a value that fits its row is read again
+
+number_again : (z : ℤ) → option_and_then as_integer (as_number (number (of_integer z))) ≡ Some z
+number_again (pos n) = refl
+number_again (negsuc n) = refl
+
+within_again : (low high z : ℤ) → low ≤ℤ z → z ≤ℤ high → within low high z ≡ Some z
+within_again low high z l h = grind (arith, ints, nat_tests)
+
+whole_again : (low high z : ℤ) → low ≤ℤ z → z ≤ℤ high → whole_in low high (number (of_integer z)) ≡ Some z
+whole_again low high z l h = rw (number_again z) (within_again low high z l h)
+
+max_again : (z : ℤ) → pos 0 ≤ℤ z → int_max (pos 0) z ≡ z
+max_again z h = grind (arith, ints, nat_tests)
+
+cut_again : (most : ℕ) (s : List ℕ) → length s ≤ most → cut most s ≡ s
+unfolding cut
+cut_again most s h = rw (le-leb (length s) most h) refl
+
+kind_again : (k : Kind) (c : Cell) → FitsKind k c → read_as k (data_of c) ≡ Some c
+unfolding read_as
+kind_again (whole low high) (int z) h = rw (whole_again low high z h.0 h.1) refl
+kind_again (not_negative low high) (int z) h = rw (whole_again low high z h.0 h.2, max_again z h.1) refl
+kind_again (text_within most) (text s) h = rw (le-leb (length s) most h) refl
+kind_again any_text (text s) h = refl
+kind_again (cut_text most) (text s) h = rw (cut_again most s h) refl
+kind_again truth (bool b) h = refl
+kind_again any_value (value d) h = refl
+kind_again (whole low high) none h = absurd h
+kind_again (whole low high) (text s) h = absurd h
+kind_again (whole low high) (bool b) h = absurd h
+kind_again (whole low high) (value d) h = absurd h
+kind_again (not_negative low high) none h = absurd h
+kind_again (not_negative low high) (text s) h = absurd h
+kind_again (not_negative low high) (bool b) h = absurd h
+kind_again (not_negative low high) (value d) h = absurd h
+kind_again (text_within most) none h = absurd h
+kind_again (text_within most) (int z) h = absurd h
+kind_again (text_within most) (bool b) h = absurd h
+kind_again (text_within most) (value d) h = absurd h
+kind_again any_text none h = absurd h
+kind_again any_text (int z) h = absurd h
+kind_again any_text (bool b) h = absurd h
+kind_again any_text (value d) h = absurd h
+kind_again (cut_text most) none h = absurd h
+kind_again (cut_text most) (int z) h = absurd h
+kind_again (cut_text most) (bool b) h = absurd h
+kind_again (cut_text most) (value d) h = absurd h
+kind_again truth none h = absurd h
+kind_again truth (int z) h = absurd h
+kind_again truth (text s) h = absurd h
+kind_again truth (value d) h = absurd h
+kind_again any_value none h = absurd h
+kind_again any_value (int z) h = absurd h
+kind_again any_value (text s) h = absurd h
+kind_again any_value (bool b) h = absurd h
+
+null_again : (d : Data) → is_some (as_null d) ≡ true → d ≡ null
+null_again null e = refl
+null_again (boolean b) e = absurd cc
+null_again (number n) e = absurd cc
+null_again (string s) e = absurd cc
+null_again (array ds) e = absurd cc
+null_again (object ms) e = absurd cc
+
+null_value : (k : Kind) (d : Data) → FitsKind k (value d) → d ≡ null → ⊥
+null_value any_value d h e = h.0 e
+null_value (whole low high) d h e = h
+null_value (not_negative low high) d h e = h
+null_value (text_within most) d h e = h
+null_value any_text d h e = h
+null_value (cut_text most) d h e = h
+null_value truth d h e = h
+
+-- a value that is null is that of a row that may be missing
+null_is_none : (row : Row) (c : Cell) → FitsRow row c → is_some (as_null (data_of c)) ≡ true → row.missing ≡ Some c
+null_is_none row none h e = h
+null_is_none row (int z) h e = absurd cc
+null_is_none row (text s) h e = absurd cc
+null_is_none row (bool b) h e = absurd cc
+null_is_none row (value d) h e = absurd (null_value row.kind d h (null_again d e))
+
+kind_of : (row : Row) (c : Cell) → FitsRow row c → is_some (as_null (data_of c)) ≡ false → FitsKind row.kind c
+kind_of row none h e = absurd cc
+kind_of row (int z) h e = h
+kind_of row (text s) h e = h
+kind_of row (bool b) h e = h
+kind_of row (value d) h e = h
+
+-- a row that was not written has its default
+absent : (row : Row) (c : Cell) (ms : Members) → get_member row.name ms ≡ None → row.missing ≡ Some c → cell_at row (object ms) ≡ Ok c
+unfolding cell_at
+absent row c ms gone is = rw (gone, is) refl
+
+written_cell : (row : Row) (c : Cell) (ms : Members) → FitsKind row.kind c → is_some (as_null (data_of c)) ≡ false → cell_at row (object (member row.name (data_of c) ms)) ≡ Ok c
+unfolding cell_at
+written_cell row c ms h e = rw (finds row.name (data_of c) ms, e, kind_again row.kind c h) refl
+
+step : (b : Bool) (before : List Cell) (row : Row) (rows : List Row) (c : Cell) (ms : Members) → is_some (as_null (data_of c)) ≡ b → FitsRow row c → apart row.name rows ≡ true → get_member row.name ms ≡ None
+    → cells_from before (row ∷ rows) (object (cond b ms (member row.name (data_of c) ms))) ≡ cells_from (before ++ c ∷ []) rows (object ms)
+step true before row rows c ms e h others gone = next _ before row rows (object ms) c (absent row c ms gone (null_is_none row c h e)) refl
+step false before row rows c ms e h others gone =
+    next _ before row rows _ c (written_cell row c ms (kind_of row c h e) e) (kept (before ++ c ∷ []) rows row.name (data_of c) ms others)
+
+pub cells_again : (before : List Cell) (rows : List Row) (cells : List Cell) → all_apart rows ≡ true → Fit rows cells → cells_from before rows (object_of rows cells) ≡ Ok (before ++ cells)
+cells_again before [] [] e h = rw append-nil (done before _)
+cells_again before [] (c ∷ cs) e h = absurd h
+cells_again before (row ∷ rows) [] e h = absurd h
+cells_again before (row ∷ rows) (c ∷ cs) e h =
+    let p = both (apart row.name rows) (all_apart rows) e in
+    step _ before row rows c (written rows cs) refl h.0 p.0 (missing row.name rows cs p.0) ∙ cells_again (before ++ c ∷ []) rows cs p.1 h.1 ∙ rw append_assoc refl

@@ -1,6 +1,6 @@
 -- What was written is read again.
-use Rattle.std.proofs.Common.{◌≡◌, ◌≢◌, ℕ, suc, ◌+◌, ◌^◌, ◌<◌, ◌≤◌, max, ℤ, pos, negsuc, ◌≤ℤ◌, List, [], ◌∷◌, ◌++◌, length, Bool, true, false, cond, not, ◌&&◌, Option, Some, None, Result, Ok, Err, Ordering, Less, Equal, Greater, is_eq, refl, sym, ap, ◌∙◌, inl, inr, append_assoc, append-nil, arith, true≢false}
-use Rattle.std.specs.Prelude.{is_some, nat_le, int_le, int_lt, option_map, option_and_then}
+use Rattle.std.proofs.Common.{◌≡◌, ◌≢◌, ℕ, suc, ◌+◌, ◌^◌, ◌<◌, ◌≤◌, max, ℤ, pos, negsuc, ◌≤ℤ◌, List, [], ◌∷◌, ◌++◌, length, Bool, true, false, cond, not, ◌&&◌, Option, Some, None, Result, Ok, Err, Ordering, Less, Equal, Greater, is_eq, refl, sym, ap, subst, ◌∙◌, inl, inr, append_assoc, append-nil, arith, true≢false}
+use Rattle.std.specs.Prelude.{IfOk, is_some, nat_le, int_le, int_lt, option_map, option_and_then}
 use Rattle.std.specs.Int.{int_max}
 use Rattle.std.specs.Ordering.{nat_cmp, match_ordering}
 use Rattle.std.specs.Cmp.Lexicographic.{slice_cmp}
@@ -10,12 +10,14 @@ use Rattle.std.proofs.lemmas.Bool.Decides.{nat_tests}
 use Rattle.std.proofs.lemmas.Cmp.{nat_list_cmp_total, tied_itself}
 use Rattle.std.proofs.lemmas.Int.{ints}
 use Rattle.serde_json.specs.Data.{Data, null, boolean, number, string, array, object, Members, no_members, member, depth, members_depth}
-use Rattle.serde_json.specs.Find.{get, get_member, as_null, as_number, of_integer, as_integer}
+use Rattle.serde_json.specs.Find.{get, get_member, as_null, as_number, of_integer, as_integer, is_float}
+use Rattle.serde_json.specs.Written.{has_float, members_have_float, compact_text}
+use Rattle.job_values.specs.declared.no_memory.NoMemory.{NoMemory}
 use Rattle.serde_json.specs.Read.{read, max_depth}
 use Rattle.api_messages.specs.Members.{Cell, none, int, text, bool, value, Kind, whole, not_negative, text_within, any_text, cut_text, truth, any_value, Row}
 use Rattle.api_messages.specs.Meaning.{most_bytes}
 use Rattle.api_messages.specs.Reading.{◌>>=◌, within, whole_in, cut, read_as, not_null, present, found_or, cell_at, cells_from, cells_at, object_at, message_at}
-use Rattle.api_messages.specs.Writing.{data_of, unless_null, written, object_of, FitsKind, FitsRow, Fit}
+use Rattle.api_messages.specs.Writing.{data_of, unless_null, written, object_of, most_depth, FitsKind, FitsRow, Fit}
 use Rattle.api_messages.specs.declared.fault.MessageFault.{MessageFault}
 use Rattle.api_messages.proofs.Rows.{next, done}
 use Rattle.api_messages.proofs.Bodies.{value_at-json}
@@ -197,3 +199,88 @@ cells_again before (row ∷ rows) [] e h = absurd h
 cells_again before (row ∷ rows) (c ∷ cs) e h =
     let p = both (apart row.name rows) (all_apart rows) e in
     step _ before row rows c (written rows cs) refl h.0 p.0 (missing row.name rows cs p.0) ∙ cells_again (before ++ c ∷ []) rows cs p.1 h.1 ∙ rw append_assoc refl
+
+-- ---- the whole text
+
+kind_depth : (k : Kind) (c : Cell) → FitsKind k c → depth (data_of c) ≤ most_depth
+kind_depth k none h = omega arith
+kind_depth k (int z) h = omega arith
+kind_depth k (text s) h = omega arith
+kind_depth k (bool b) h = omega arith
+kind_depth any_value (value d) h = h.1
+kind_depth (whole low high) (value d) h = absurd h
+kind_depth (not_negative low high) (value d) h = absurd h
+kind_depth (text_within most) (value d) h = absurd h
+kind_depth any_text (value d) h = absurd h
+kind_depth (cut_text most) (value d) h = absurd h
+kind_depth truth (value d) h = absurd h
+
+row_depth : (row : Row) (c : Cell) → FitsRow row c → depth (data_of c) ≤ most_depth
+row_depth row none h = omega arith
+row_depth row (int z) h = kind_depth row.kind (int z) h
+row_depth row (text s) h = kind_depth row.kind (text s) h
+row_depth row (bool b) h = kind_depth row.kind (bool b) h
+row_depth row (value d) h = kind_depth row.kind (value d) h
+
+unless_depth : (b : Bool) (name : List ℕ) (d : Data) (ms : Members) → depth d ≤ most_depth → members_depth ms ≤ most_depth → members_depth (cond b ms (member name d ms)) ≤ most_depth
+unless_depth true name d ms h k = k
+unless_depth false name d ms h k = omega arith
+
+written_depth : (rows : List Row) (cells : List Cell) → Fit rows cells → members_depth (written rows cells) ≤ most_depth
+written_depth [] [] h = omega arith
+written_depth [] (c ∷ cs) h = absurd h
+written_depth (row ∷ rows) [] h = absurd h
+written_depth (row ∷ rows) (c ∷ cs) h = unless_depth _ row.name (data_of c) (written rows cs) (row_depth row c h.0) (written_depth rows cs h.1)
+
+pub object_depth : (rows : List Row) (cells : List Cell) → Fit rows cells → depth (object_of rows cells) ≤ max_depth
+object_depth rows cells h = omega (arith, written_depth rows cells h)
+
+pub message_again : (rows : List Row) (cells : List Cell) (b : List ℕ) → all_apart rows ≡ true → Fit rows cells → length b ≤ most_bytes → IsUtf8 b → read b ≡ Some (object_of rows cells) → message_at rows b ≡ Ok cells
+unfolding message_at object_at
+message_again rows cells b apart fits short utf8 reads = rw (value_at-json b _ short utf8 reads, cells_again [] rows cells apart fits) refl
+
+-- the message of what was written, where its values fit
+pub reads_again : (r : Result (List ℕ) NoMemory) (d : Data) (rows : List Row) (cells : List Cell) → d ≡ object_of rows cells → all_apart rows ≡ true → IfOk r IsUtf8
+    → IfOk r (λ b. depth d ≤ max_depth → read b ≡ Some d) → IfOk r (λ b. length b ≤ most_bytes → Fit rows cells → message_at rows b ≡ Ok cells)
+reads_again (Ok b) d rows cells is apart utf8 reads =
+    λ short fits. message_again rows cells b apart fits short utf8 (subst (λ e. depth e ≤ max_depth → read b ≡ Some e) is reads (object_depth rows cells fits))
+reads_again (Err e) d rows cells is apart utf8 reads = tt
+
+-- the same, where the writer knows that they fit
+pub fitting_again : (r : Result (List ℕ) NoMemory) (d : Data) (rows : List Row) (cells : List Cell) → d ≡ object_of rows cells → all_apart rows ≡ true → IfOk r IsUtf8
+    → IfOk r (λ b. depth d ≤ max_depth → read b ≡ Some d) → Fit rows cells → IfOk r (λ b. length b ≤ most_bytes → message_at rows b ≡ Ok cells)
+fitting_again (Ok b) d rows cells is apart utf8 reads fits = λ short. reads_again (Ok b) d rows cells is apart utf8 reads short fits
+fitting_again (Err e) d rows cells is apart utf8 reads fits = tt
+
+-- ---- values without floats
+
+abbrev pub is_flat : List Cell → Bool
+is_flat [] = true
+is_flat (value d ∷ cs) = false
+is_flat (none ∷ cs) = is_flat cs
+is_flat (int z ∷ cs) = is_flat cs
+is_flat (text s ∷ cs) = is_flat cs
+is_flat (bool b ∷ cs) = is_flat cs
+
+integer_is_no_float : (z : ℤ) → is_float (of_integer z) ≡ false
+integer_is_no_float (pos n) = refl
+integer_is_no_float (negsuc n) = refl
+
+pub flat_members : (rows : List Row) (cells : List Cell) → is_flat cells ≡ true → members_have_float (written rows cells) ≡ false
+flat_members [] cells e = refl
+flat_members (row ∷ rows) [] e = refl
+flat_members (row ∷ rows) (value d ∷ cs) e = absurd cc
+flat_members (row ∷ rows) (none ∷ cs) e = flat_members rows cs e
+flat_members (row ∷ rows) (int z ∷ cs) e = rw (integer_is_no_float z) (flat_members rows cs e)
+flat_members (row ∷ rows) (text s ∷ cs) e = flat_members rows cs e
+flat_members (row ∷ rows) (bool b ∷ cs) e = flat_members rows cs e
+
+pub flat_text : (r : Result (List ℕ) NoMemory) (d : Data) (rows : List Row) (cells : List Cell) → d ≡ object_of rows cells → is_flat cells ≡ true
+    → IfOk r (λ b. has_float d ≡ false → b ≡ compact_text d) → IfOk r (λ b. b ≡ compact_text (object_of rows cells))
+flat_text (Ok b) d rows cells is flat texts = subst (λ e. has_float e ≡ false → b ≡ compact_text e) is texts (flat_members rows cells flat)
+flat_text (Err e) d rows cells is flat texts = tt
+
+pub text_as_is : (r : Result (List ℕ) NoMemory) (d : Data) (rows : List Row) (cells : List Cell) → d ≡ object_of rows cells
+    → IfOk r (λ b. has_float d ≡ false → b ≡ compact_text d) → IfOk r (λ b. has_float (object_of rows cells) ≡ false → b ≡ compact_text (object_of rows cells))
+text_as_is (Ok b) d rows cells is texts = subst (λ e. has_float e ≡ false → b ≡ compact_text e) is texts
+text_as_is (Err e) d rows cells is texts = tt

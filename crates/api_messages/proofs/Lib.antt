@@ -4,3 +4,4 @@ pub mod Rows
 pub mod Items
 pub mod Numbers
 pub mod Again
+pub mod Sent

@@ -1,6 +1,6 @@
 -- What is written for a message, and which messages are read back from it.
 use Rattle.std.specs.Prelude.{◌≡◌, ◌≢◌, ℕ, ◌≤◌, ℤ, pos, ◌≤ℤ◌, List, [], ◌∷◌, length, map, Bool, true, false, Some, is_some, if◌then◌else◌}
-use Rattle.serde_json.specs.Data.{Data, null, boolean, number, string, array, object, Members, no_members, member, depth}
+use Rattle.serde_json.specs.Data.{Data, null, boolean, number, string, array, object, Members, no_members, member, put, depth}
 use Rattle.serde_json.specs.Find.{as_null, of_integer}
 use Rattle.serde_json.specs.View.{items_of}
 use Rattle.api_messages.specs.Members.{Cell, none, int, text, bool, value, Kind, whole, not_negative, text_within, any_text, cut_text, truth, any_value, Row}
@@ -17,6 +17,10 @@ data_of (value d) = d
 -- a member before the others, unless it is null
 abbrev pub unless_null : List ℕ → Data → Members → Members
 unless_null name d ms = if is_some (as_null d) then ms else member name d ms
+
+-- the same, where other members stand before it
+abbrev pub put_unless_null : List ℕ → Data → Members → Members
+put_unless_null name d ms = if is_some (as_null d) then ms else put name d ms
 
 -- the members in the order of the rows
 abbrev pub written : List Row → List Cell → Members
@@ -58,3 +62,7 @@ abbrev pub Fit : List Row → List Cell → Type 0
 Fit [] [] = Unit {0}
 Fit (row ∷ rows) (c ∷ cs) = FitsRow row c × Fit rows cs
 Fit _ _ = ⊥
+
+abbrev pub FitAll : List (List Cell) → Type 0
+FitAll [] = Unit {0}
+FitAll (cells ∷ items) = Fit item_rows cells × FitAll items

@@ -1,16 +1,21 @@
 //! The messages of `run`.
+ghost use Rattle.std.specs.Prelude.{◌≡◌, ◌≤◌, length, Ok, IfOk};
 ghost use Rattle.serde_json.specs.View.{view};
+ghost use Rattle.serde_json.specs.Written.{compact_text};
+ghost use Rattle.api_messages.specs.Meaning.{most_bytes};
 ghost use Rattle.api_messages.specs.Tables.{run_rows};
 ghost use Rattle.api_messages.specs.Reading.{Gives, cells_at, message_at};
 ghost use Rattle.api_messages.specs.Seen.{run_cells};
+ghost use Rattle.api_messages.specs.Writing.{Fit, object_of};
 
 use crate::body::object_of;
 use crate::fault::MessageFault;
 use crate::member::{count, job_id, log_id, milliseconds, seconds};
 use crate::text_member::{long_text, short_text};
-use job_values::{JobId, LogId, Text};
-use serde_json::Value;
-use std::alloc::Global;
+use job_values::{JobId, LogId, NoMemory, Seq, Text};
+use crate::written::text_of;
+use serde_json::{Value, json};
+use std::alloc::{AllocError, Global};
 
 /// Asks an executor to run a job.
 #[derive(Debug, Drop)]
@@ -77,4 +82,34 @@ pub fn read_run(alloc: Global, bytes: &[u8]) -> Result<RunMessage, MessageFault>
 {
     let object = object_of(alloc, bytes)?;
     run_of(alloc, &object)
+}
+
+fn run_value(alloc: Global, message: &RunMessage) -> Result<Value, AllocError>
+    ensures value { IfOk result (λ v. view v ≡ object_of run_rows (run_cells message.now)) }
+{
+    json!(in alloc; {
+        "broadcastIndex": message.broadcast_index,
+        "broadcastTotal": message.broadcast_total,
+        "executorBlockStrategy": message.executor_block_strategy.as_str(),
+        "executorHandler": message.executor_handler.as_str(),
+        "executorParams": message.executor_params.as_str(),
+        "executorTimeout": message.executor_timeout,
+        "glueSource": message.glue_source.as_str(),
+        "glueType": message.glue_type.as_str(),
+        "glueUpdatetime": message.glue_updatetime,
+        "jobId": message.job_id.get(),
+        "logDateTime": message.log_date_time,
+        "logId": message.log_id.get(),
+    })
+}
+
+/// The text of a message; one whose values are within their limits is read back.
+pub fn write_run(alloc: Global, message: &RunMessage) -> Result<Seq<u8>, NoMemory>
+    ensures text { IfOk result (λ b. b ≡ compact_text (object_of run_rows (run_cells message.now))) }
+    ensures reads { IfOk result (λ b. length b ≤ most_bytes → Fit run_rows (run_cells message.now) → message_at run_rows b ≡ Ok (run_cells message.now)) }
+{
+    let Ok(value) = run_value(alloc, message) else {
+        return Err(NoMemory);
+    };
+    text_of(alloc, &value)
 }

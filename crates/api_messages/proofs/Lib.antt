@@ -5,3 +5,5 @@ pub mod Items
 pub mod Numbers
 pub mod Again
 pub mod Sent
+pub mod CutIs
+pub mod Exact

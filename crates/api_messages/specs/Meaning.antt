@@ -1,11 +1,15 @@
 -- Which message a JSON text means, member by member, and which fault it has where it means none.
-use Rattle.std.specs.Prelude.{◌≡◌, ◌≢◌, ◌⊎◌, ℕ, ◌≤◌, ◌<◌, ℤ, pos, ◌≤ℤ◌, List, [], ◌∷◌, ◌++◌, length, Bool, Some, None, AllPairs}
+use Rattle.std.specs.Prelude.{◌≡◌, ◌≢◌, ◌⊎◌, ℕ, ◌≤◌, ◌<◌, ℤ, pos, ◌≤ℤ◌, List, [], ◌∷◌, ◌++◌, length, Bool, Some, None}
 use Rattle.std.specs.Str.{IsUtf8}
 use Rattle.std.specs.Int.{int_max}
-use Rattle.serde_json.specs.Data.{Num, Data, null, boolean, number, string, array, object, Items, no_items, item, Members}
+use Rattle.serde_json.specs.Data.{Num, Data, null, boolean, number, string, array, object, Members}
 use Rattle.serde_json.specs.Find.{get, as_integer}
 use Rattle.serde_json.specs.Read.{read}
+use Rattle.serde_json.specs.View.{items_of}
 use Rattle.api_messages.specs.Members.{Cell, int, text, bool, value, Kind, whole, not_negative, text_within, any_text, cut_text, truth, any_value, Row}
+use Rattle.api_messages.specs.Tables.{item_rows}
+use Rattle.api_messages.specs.declared.fault.MessageFault.{MessageFault}
+use Rattle.api_messages.specs.declared.fault.MessageFault.TheVariants as faults
 
 -- the JSON value is this whole number
 abbrev pub IsWhole : Data → ℤ → Type 0
@@ -67,3 +71,50 @@ IsNoJson bytes = IsUtf8 bytes → read bytes ≡ None
 
 abbrev pub IsObject : Data → Type 0
 IsObject d = (ms : Members) × (d ≡ object ms)
+
+-- the body gives each row of the table this value
+abbrev pub IsMessage : List Row → List ℕ → List Cell → Type 0
+IsMessage rows bytes cells = (d : Data) × IsBody bytes d × IsObject d × Means rows d cells
+
+-- the first fault of a body that is no message
+abbrev pub HasFault : List Row → List ℕ → MessageFault → Type 0
+HasFault rows bytes faults.TooLong = most_bytes < length bytes
+HasFault rows bytes faults.NotJson = (length bytes ≤ most_bytes) × IsNoJson bytes
+HasFault rows bytes faults.WrongShape = (d : Data) × IsBody bytes d × ¬ (IsObject d)
+HasFault rows bytes (faults.Member which) = (d : Data) × IsBody bytes d × IsObject d × IsFirstFaulty rows d which
+HasFault rows bytes faults.NoMemory = ⊥
+
+-- ---- callbacks
+
+-- the JSON value is the array of these
+abbrev pub IsArray : Data → List Data → Type 0
+IsArray d ds = d ≡ array (items_of ds)
+
+abbrev pub AreObjects : List Data → Type 0
+AreObjects [] = Unit {0}
+AreObjects (d ∷ ds) = IsObject d × AreObjects ds
+
+-- each item gives each row its value
+abbrev pub MeansAll : List Data → List (List Cell) → Type 0
+MeansAll [] [] = Unit {0}
+MeansAll (d ∷ ds) (cells ∷ items) = Means item_rows d cells × MeansAll ds items
+MeansAll _ _ = ⊥
+
+-- the first item with a fault has it at this member
+abbrev pub IsFirstFaultyItem : List Data → List ℕ → Type 0
+IsFirstFaultyItem ds name =
+    (before after : List Data) × (d : Data) × (items : List (List Cell)) × (ds ≡ before ++ d ∷ after) × MeansAll before items × IsFirstFaulty item_rows d name
+
+abbrev pub IsCallback : List ℕ → List (List Cell) → Type 0
+IsCallback bytes items =
+    (d : Data) × (ds : List Data) × IsBody bytes d × IsArray d ds × AreObjects ds × (length ds ≤ most_items) × MeansAll ds items
+
+-- the first fault of a body that is no callback
+abbrev pub HasCallbackFault : List ℕ → MessageFault → Type 0
+HasCallbackFault bytes faults.TooLong =
+    (most_bytes < length bytes) ⊎ ((d : Data) × (ds : List Data) × IsBody bytes d × IsArray d ds × AreObjects ds × (most_items < length ds))
+HasCallbackFault bytes faults.NotJson = (length bytes ≤ most_bytes) × IsNoJson bytes
+HasCallbackFault bytes faults.WrongShape = (d : Data) × IsBody bytes d × ¬ ((ds : List Data) × IsArray d ds × AreObjects ds)
+HasCallbackFault bytes (faults.Member which) =
+    (d : Data) × (ds : List Data) × IsBody bytes d × IsArray d ds × AreObjects ds × (length ds ≤ most_items) × IsFirstFaultyItem ds which
+HasCallbackFault bytes faults.NoMemory = ⊥

@@ -7,3 +7,5 @@ pub mod Again
 pub mod Sent
 pub mod CutIs
 pub mod Exact
+pub mod ExactRows
+pub mod ExactBodies

@@ -9,3 +9,5 @@ pub mod CutIs
 pub mod Exact
 pub mod ExactRows
 pub mod ExactBodies
+pub mod ExactItems
+pub mod Values

@@ -4,3 +4,4 @@ pub mod Meaning
 pub mod Reading
 pub mod Seen
 pub mod Writing
+pub mod Laws

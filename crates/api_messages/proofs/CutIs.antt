@@ -65,7 +65,7 @@ short_is most s h = record {
   fits = h;
   kept = λ _. refl;
   characters = λ k. absurd (omega arith);
-  longest = λ u rest k _ _ _. absurd (omega arith)
+  longest = λ u rest k _ _ _. absurd (omega arith);
 }
 
 long_is : (most : ℕ) (s : List ℕ) → most < length s → IsCut most s (take (utf8_valid_len (take most s)) s)
@@ -79,9 +79,9 @@ long_is most s h =
       kept = λ k. absurd (omega arith);
       characters = λ k. subst IsUtf8 (take-take n most s within) (front_utf8 (take most s));
       longest = λ u rest k is utf8 fits.
-        let front : IsUtf8 (take (length u) (take most s)) = subst IsUtf8 (sym (front_of most s u rest is fits)) utf8 in
-        let least : length u ≤ n = front_longest (take most s) (length u) (omega (arith, length-take most s)) front in
-        omega arith
+          let front : IsUtf8 (take (length u) (take most s)) = subst IsUtf8 (sym (front_of most s u rest is fits)) utf8 in
+          let least : length u ≤ n = front_longest (take most s) (length u) (omega (arith, length-take most s)) front in
+          omega arith;
     }
 
 pub cut_is : (most : ℕ) (s : List ℕ) → IsCut most s (cut most s)

@@ -24,10 +24,10 @@ valid_len : (s : List ℕ) (most end : ℕ) → IsUtf8 s → most < length s →
 valid_len s most end utf8 long bound whole nearest =
     elim (cases_lt end most) [
       | inl lt ↦ utf8_valid_len-IsValidUpTo (take most s) end (record {
-          short = omega (arith, length-take most s);
-          front = subst IsUtf8 (sym (take-take end most s bound)) whole;
-          longest = λ m above found. no_longer s most end m utf8 long nearest lt above found
-        })
+        short = omega (arith, length-take most s);
+        front = subst IsUtf8 (sym (take-take end most s bound)) whole;
+        longest = λ m above found. no_longer s most end m utf8 long nearest lt above found;
+      })
       | inr ge ↦
           let same : end ≡ most = omega arith in
           utf8_valid_len-IsUtf8 (take most s) (subst (λ n. IsUtf8 (take n s)) same whole) ∙ omega (arith, length-take most s)

@@ -83,6 +83,6 @@ pub array_again : (r : Result (List ℕ) NoMemory) (d : Data) (items : List Call
     → IfOk r (λ b. depth d ≤ max_depth → read b ≡ Some d) → IfOk r (λ b. length b ≤ most_bytes → length items ≤ most_items → callbacks_at b ≡ Ok (map item_cells items))
 array_again (Ok b) d items is fits utf8 reads =
     λ short few.
-      let within : depth (array_of (map item_cells items)) ≤ max_depth = omega (arith, array_depth items) in
-      callbacks_again (map item_cells items) b (omega (arith, length-map items item_cells)) fits short utf8 (subst (λ e. depth e ≤ max_depth → read b ≡ Some e) is reads within)
+    let within : depth (array_of (map item_cells items)) ≤ max_depth = omega (arith, array_depth items) in
+    callbacks_again (map item_cells items) b (omega (arith, length-map items item_cells)) fits short utf8 (subst (λ e. depth e ≤ max_depth → read b ≡ Some e) is reads within)
 array_again (Err e) d items is fits utf8 reads = tt

@@ -68,7 +68,7 @@ run_of cs = record {
   glue_updatetime = whole_of (place 8 cs);
   job_id = natural (whole_of (place 9 cs));
   log_date_time = whole_of (place 10 cs);
-  log_id = natural (whole_of (place 11 cs))
+  log_id = natural (whole_of (place 11 cs));
 }
 
 abbrev pub idle_beat_of : List Cell → IdleBeatMessage

@@ -5,3 +5,4 @@ pub mod Reading
 pub mod Seen
 pub mod Writing
 pub mod Laws
+pub mod Faults

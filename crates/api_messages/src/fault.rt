@@ -2,9 +2,8 @@
 ghost use Rattle.std.specs.Prelude.{◌≡◌};
 ghost use Rattle.api_messages.specs.declared.fault.MessageFault.TheVariants as faults;
 
-use std::alloc::{AllocError, AllocFailed};
-
 use job_values::Text;
+use std::alloc::{AllocError, AllocFailed};
 use thiserror::Error;
 
 /// The first fault of a body, in this order but for `TooLong`, which comes first for the bytes.
@@ -25,6 +24,23 @@ pub enum MessageFault {
     /// Memory ran out.
     #[error("no memory")]
     NoMemory,
+}
+
+impl MessageFault {
+    ghost use Rattle.api_messages.specs.Faults.{fault_number};
+
+    /// The number of the fault, from 1 to 5.
+    pub fn number(&self) -> u8
+        ensures { result ≡ fault_number self.now }
+    {
+        match self {
+            MessageFault::NotJson => 1,
+            MessageFault::WrongShape => 2,
+            MessageFault::Member { .. } => 3,
+            MessageFault::TooLong => 4,
+            MessageFault::NoMemory => 5,
+        }
+    }
 }
 
 impl From<AllocError> for MessageFault {

@@ -11,8 +11,8 @@ ghost use Rattle.api_messages.specs.Writing.{Fit, object_of};
 use crate::body::object_of;
 use crate::fault::MessageFault;
 use crate::member::job_id;
-use job_values::{JobId, NoMemory, Seq};
 use crate::written::text_of;
+use job_values::{JobId, NoMemory, Seq};
 use serde_json::{Value, json};
 use std::alloc::{AllocError, Global};
 

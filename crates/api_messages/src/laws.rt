@@ -6,25 +6,21 @@ ghost use Rattle.api_messages.specs.Laws.{MessageExact, FaultExact, CallbackExac
 pub fn law_messages()
     ensures message { MessageExact }
     ensures fault { FaultExact }
-{
-}
+{}
 
 /// The same of callbacks.
 pub fn law_callbacks()
     ensures callback { CallbackExact }
     ensures fault { CallbackFaultExact }
-{
-}
+{}
 
 /// The tables have their members in byte order of the names.
 pub fn law_tables()
     ensures { TablesInOrder }
-{
-}
+{}
 
 /// A message is told by the values of its rows, so that what reads back is the message that was
 /// written.
 pub fn law_values()
     ensures { SameValues }
-{
-}
+{}

@@ -12,8 +12,8 @@ use crate::body::object_of;
 use crate::fault::MessageFault;
 use crate::member::signed;
 use crate::text_member::{long_text, truth};
-use job_values::{NoMemory, Seq, Text};
 use crate::written::text_of;
+use job_values::{NoMemory, Seq, Text};
 use serde_json::{Value, json};
 use std::alloc::{AllocError, Global};
 

@@ -26,13 +26,7 @@ pub(crate) fn present<'v>(object: &'v Value, name: &str) -> Option<&'v Value>
     ensures { option_map (λ v. view v.now) result ≡ present name.now (view object.now) }
 {
     match object.get(name) {
-        Some(value) => {
-            if value.is_null() {
-                None
-            } else {
-                Some(value)
-            }
-        }
+        Some(value) => { if value.is_null() { None } else { Some(value) } }
         None => None,
     }
 }
@@ -43,13 +37,7 @@ fn within(number: Option<i64>, low: i64, high: i64) -> Option<i64>
     ensures high { IfSome result (λ z. z ≤ℤ high) }
 {
     match number {
-        Some(n) => {
-            if low <= n && n <= high {
-                Some(n)
-            } else {
-                None
-            }
-        }
+        Some(n) => { if low <= n && n <= high { Some(n) } else { None } }
         None => None,
     }
 }
@@ -126,7 +114,14 @@ pub(crate) fn count(
     requires { missing ≤ 2147483647 }
     ensures { Gives (λ n. int (pos n)) result (cell_at (optional name.now count (int (pos missing))) (view object.now)) }
 {
-    let n = number(alloc, object, name, 0, 2_147_483_647, Some(i64::from(missing)))?;
+    let n = number(
+        alloc,
+        object,
+        name,
+        0,
+        2_147_483_647,
+        Some(i64::from(missing)),
+    )?;
     Ok(n as u32)
 }
 
@@ -148,7 +143,14 @@ pub(crate) fn seconds(
     requires { missing ≤ 2147483647 }
     ensures { Gives int result (cell_at (optional name.now seconds (int (pos missing))) (view object.now)) }
 {
-    let n = amount(alloc, object, name, -2_147_483_648, 2_147_483_647, i64::from(missing))?;
+    let n = amount(
+        alloc,
+        object,
+        name,
+        -2_147_483_648,
+        2_147_483_647,
+        i64::from(missing),
+    )?;
     Ok(n as i32)
 }
 

@@ -11,8 +11,8 @@ ghost use Rattle.api_messages.specs.Writing.{Fit, object_of};
 use crate::body::object_of;
 use crate::fault::MessageFault;
 use crate::text_member::short_text;
-use job_values::{NoMemory, Seq, Text};
 use crate::written::text_of;
+use job_values::{NoMemory, Seq, Text};
 use serde_json::{Value, json};
 use std::alloc::{AllocError, Global};
 

@@ -76,7 +76,12 @@ fn put_msg(
         ≡ put_unless_null (codes "msg") (data_of (text_or_none msg.now)) (members_view members.old.entries)) }
 {
     match msg {
-        Some(text) => put(members, alloc, "msg", Value::try_from_str(alloc, text.as_str())?),
+        Some(text) => put(
+            members,
+            alloc,
+            "msg",
+            Value::try_from_str(alloc, text.as_str())?,
+        ),
         None => Ok(()),
     }
 }

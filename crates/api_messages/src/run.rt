@@ -12,8 +12,8 @@ use crate::body::object_of;
 use crate::fault::MessageFault;
 use crate::member::{count, job_id, log_id, milliseconds, seconds};
 use crate::text_member::{long_text, short_text};
-use job_values::{JobId, LogId, NoMemory, Seq, Text};
 use crate::written::text_of;
+use job_values::{JobId, LogId, NoMemory, Seq, Text};
 use serde_json::{Value, json};
 use std::alloc::{AllocError, Global};
 
@@ -48,8 +48,13 @@ fn run_of(alloc: Global, object: &Value) -> Result<RunMessage, MessageFault>
 {
     let broadcast_index = count(alloc, object, "broadcastIndex", 0)?;
     let broadcast_total = count(alloc, object, "broadcastTotal", 1)?;
-    let executor_block_strategy =
-        short_text(alloc, object, "executorBlockStrategy", 64, "SERIAL_EXECUTION")?;
+    let executor_block_strategy = short_text(
+        alloc,
+        object,
+        "executorBlockStrategy",
+        64,
+        "SERIAL_EXECUTION",
+    )?;
     let executor_handler = short_text(alloc, object, "executorHandler", 255, "")?;
     let executor_params = short_text(alloc, object, "executorParams", 65_536, "")?;
     let executor_timeout = seconds(alloc, object, "executorTimeout", 0)?;

@@ -14,5 +14,5 @@ returns c = record {
   return_code = λ m n e. cc;
   return_content = λ m n e. value_or_none_is _ _ cc;
   return_msg = λ m n e. text_or_none_is _ _ cc;
-  manage = λ m n e. ap manage_of e
+  manage = λ m n e. ap manage_of e;
 }

@@ -1,6 +1,6 @@
 -- What was written is read again.
-use Rattle.std.proofs.Common.{◌≡◌, ◌≢◌, ℕ, suc, ◌+◌, ◌^◌, ◌<◌, ◌≤◌, max, ℤ, pos, negsuc, ◌≤ℤ◌, List, [], ◌∷◌, ◌++◌, length, Bool, true, false, cond, not, ◌&&◌, Option, Some, None, Result, Ok, Err, Ordering, Less, Equal, Greater, is_eq, refl, sym, ap, subst, ◌∙◌, inl, inr, append_assoc, append-nil, arith, true≢false}
-use Rattle.std.specs.Prelude.{IfOk, is_some, nat_le, int_le, int_lt, option_map, option_and_then}
+use Rattle.std.proofs.Common.{◌≡◌, ℕ, ◌≤◌, ℤ, pos, negsuc, ◌≤ℤ◌, List, [], ◌∷◌, ◌++◌, length, Bool, true, false, cond, not, ◌&&◌, Option, Some, None, Result, Ok, Err, Ordering, Less, Equal, Greater, is_eq, refl, subst, ◌∙◌, append_assoc, append-nil, arith, true≢false}
+use Rattle.std.specs.Prelude.{IfOk, is_some, option_and_then}
 use Rattle.std.specs.Int.{int_max}
 use Rattle.std.specs.Ordering.{nat_cmp, match_ordering}
 use Rattle.std.specs.Cmp.Lexicographic.{slice_cmp}
@@ -9,15 +9,15 @@ use Rattle.std.proofs.lemmas.Bool.{le-leb}
 use Rattle.std.proofs.lemmas.Bool.Decides.{nat_tests}
 use Rattle.std.proofs.lemmas.Cmp.{nat_list_cmp_total, tied_itself}
 use Rattle.std.proofs.lemmas.Int.{ints}
-use Rattle.serde_json.specs.Data.{Data, null, boolean, number, string, array, object, Members, no_members, member, depth, members_depth}
-use Rattle.serde_json.specs.Find.{get, get_member, as_null, as_number, of_integer, as_integer, is_float}
+use Rattle.serde_json.specs.Data.{Data, null, boolean, number, string, array, object, Members, member, depth, members_depth}
+use Rattle.serde_json.specs.Find.{get_member, as_null, as_number, of_integer, as_integer, is_float}
 use Rattle.serde_json.specs.Written.{has_float, members_have_float, compact_text}
 use Rattle.job_values.specs.declared.no_memory.NoMemory.{NoMemory}
 use Rattle.serde_json.specs.Read.{read, max_depth}
 use Rattle.api_messages.specs.Members.{Cell, none, int, text, bool, value, Kind, whole, not_negative, text_within, any_text, cut_text, truth, any_value, Row}
 use Rattle.api_messages.specs.Meaning.{most_bytes}
-use Rattle.api_messages.specs.Reading.{◌>>=◌, within, whole_in, cut, read_as, not_null, present, found_or, cell_at, cells_from, cells_at, object_at, message_at}
-use Rattle.api_messages.specs.Writing.{data_of, unless_null, written, object_of, most_depth, FitsKind, FitsRow, Fit}
+use Rattle.api_messages.specs.Reading.{◌>>=◌, within, whole_in, cut, read_as, cell_at, cells_from, object_at, message_at}
+use Rattle.api_messages.specs.Writing.{data_of, written, object_of, most_depth, FitsKind, FitsRow, Fit}
 use Rattle.api_messages.specs.declared.fault.MessageFault.{MessageFault}
 use Rattle.api_messages.proofs.Rows.{next, done}
 use Rattle.api_messages.proofs.Bodies.{value_at-json}

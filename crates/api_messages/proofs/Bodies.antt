@@ -1,12 +1,12 @@
 -- What the bytes of a body are.
-use Rattle.std.proofs.Common.{◌≡◌, ℕ, ◌≤◌, List, length, Some, None, Ok, Err, Bool, true, false, nat_lt, cond, refl, arith}
+use Rattle.std.proofs.Common.{◌≡◌, ℕ, ◌≤◌, List, length, Some, None, Ok, Err, Bool, true, false, cond, refl}
 use Rattle.std.proofs.lemmas.Bool.{le-ltb}
 use Rattle.std.specs.Str.{IsUtf8, is_utf8}
 use Rattle.std.proofs.lemmas.Str.{IsUtf8-from_is_utf8, is_utf8-from_IsUtf8}
 use Rattle.serde_json.specs.Data.{Data}
 use Rattle.serde_json.specs.Read.{read}
 use Rattle.api_messages.specs.Meaning.{most_bytes}
-use Rattle.api_messages.specs.Reading.{json_at, value_at}
+use Rattle.api_messages.specs.Reading.{value_at}
 use Rattle.api_messages.specs.declared.fault.MessageFault.TheVariants.{NotJson}
 
 pub value_at-json : (bytes : List ℕ) (d : Data) → length bytes ≤ most_bytes → IsUtf8 bytes → read bytes ≡ Some d → value_at bytes ≡ Ok d

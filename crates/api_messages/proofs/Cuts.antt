@@ -1,10 +1,10 @@
 -- The place before which a text is cut is the end of the longest front of whole characters.
-use Rattle.std.proofs.Common.{◌≡◌, ℕ, ◌<◌, ◌≤◌, List, length, take, Bool, true, false, cond, nat_le, refl, sym, ap, subst, ◌∙◌, arith, inl, inr}
+use Rattle.std.proofs.Common.{◌≡◌, ℕ, ◌<◌, ◌≤◌, List, length, take, false, nat_le, refl, sym, subst, ◌∙◌, arith, inl, inr}
 use Rattle.std.proofs.lemmas.Bool.{cases_lt}
 use Rattle.std.proofs.lemmas.Bool.Decides.{nat_tests}
 use Rattle.std.proofs.lemmas.List.{length-take, take-take, take_all}
 use Rattle.std.proofs.lemmas.Str.{utf8_valid_len-IsUtf8, utf8_valid_len-IsValidUpTo, IsCharBoundary-from_take}
-use Rattle.std.specs.Str.{IsUtf8, IsValidUpTo, IsCharBoundary}
+use Rattle.std.specs.Str.{IsUtf8, IsCharBoundary}
 use Rattle.std.specs.Str.Lossy.{utf8_valid_len}
 use Rattle.api_messages.specs.Reading.{cut}
 

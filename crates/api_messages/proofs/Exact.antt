@@ -1,16 +1,16 @@
 -- Reading gives exactly what an object means, member by member.
-use Rattle.std.proofs.Common.{◌≡◌, ◌≢◌, ℕ, ◌≤◌, ℤ, pos, ◌≤ℤ◌, List, [], ◌∷◌, ◌++◌, length, Bool, true, false, cond, Option, Some, None, Result, Ok, Err, refl, sym, ap, subst, ◌∙◌, inl, inr, arith}
-use Rattle.std.specs.Prelude.{◌⊎◌, ◌&&◌, is_some, nat_le, int_le, option_map, option_and_then}
+use Rattle.std.proofs.Common.{◌≡◌, ◌≢◌, ℕ, ◌≤◌, ℤ, pos, ◌≤ℤ◌, List, length, Bool, Option, Some, None, Ok, Err, refl, sym, ap, subst, ◌∙◌, inl, inr, arith}
+use Rattle.std.specs.Prelude.{◌⊎◌, nat_le, option_map, option_and_then}
 use Rattle.std.specs.Int.{int_max}
 use Rattle.std.proofs.lemmas.Bool.{le-leb, leb-true}
 use Rattle.std.proofs.lemmas.Bool.Decides.{nat_tests}
 use Rattle.std.proofs.lemmas.Int.{ints}
 use Rattle.std.proofs.lemmas.Option.{cond_some, same_Some}
-use Rattle.serde_json.specs.Data.{Num, unsigned, negative, float, Data, null, boolean, number, string, array, object}
-use Rattle.serde_json.specs.Find.{get, as_null, as_number, as_integer, as_str, as_bool}
-use Rattle.api_messages.specs.Members.{Cell, none, int, text, bool, value, Kind, whole, not_negative, text_within, any_text, cut_text, truth, any_value, Row}
-use Rattle.api_messages.specs.Meaning.{IsWhole, IsCut, StandsFor, IsMissing, Has, Means, IsFirstFaulty}
-use Rattle.api_messages.specs.Reading.{◌>>=◌, or_fault, within, whole_in, short_text, cut, read_as, not_null, present, found_or, cell_at, cells_from, cells_at}
+use Rattle.serde_json.specs.Data.{Num, Data, null, boolean, number, string, array, object}
+use Rattle.serde_json.specs.Find.{get, as_number, as_integer, as_str, as_bool}
+use Rattle.api_messages.specs.Members.{Cell, int, text, bool, value, Kind, whole, not_negative, text_within, any_text, cut_text, truth, any_value, Row}
+use Rattle.api_messages.specs.Meaning.{IsWhole, StandsFor, IsMissing, Has}
+use Rattle.api_messages.specs.Reading.{or_fault, within, whole_in, short_text, cut, read_as, not_null, present, found_or, cell_at}
 use Rattle.api_messages.specs.declared.fault.MessageFault.{MessageFault}
 use Rattle.api_messages.specs.declared.fault.MessageFault.TheVariants as faults
 use Rattle.api_messages.proofs.CutIs.{cut_is, cut_only}

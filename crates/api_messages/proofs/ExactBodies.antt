@@ -1,15 +1,14 @@
 -- Reading gives exactly what a body means.
-use Rattle.std.proofs.Common.{◌≡◌, ℕ, ◌<◌, ◌≤◌, List, [], ◌∷◌, ◌++◌, length, Bool, true, false, cond, Option, Some, None, Result, Ok, Err, refl, sym, ap, subst, ◌∙◌, inl, inr, arith}
-use Rattle.std.specs.Prelude.{◌⊎◌, ◌↔◌, nat_lt, is_some}
+use Rattle.std.proofs.Common.{◌≡◌, ℕ, ◌<◌, ◌≤◌, List, [], length, Bool, true, false, Option, Some, None, Ok, Err, refl, sym, subst, inl, inr}
+use Rattle.std.specs.Prelude.{◌⊎◌}
 use Rattle.std.specs.Str.{IsUtf8, is_utf8}
-use Rattle.std.proofs.lemmas.Bool.{cases_lt, le-ltb, lt-ltb}
+use Rattle.std.proofs.lemmas.Bool.{cases_lt, lt-ltb}
 use Rattle.std.proofs.lemmas.Str.{IsUtf8-from_is_utf8, is_utf8-from_IsUtf8}
-use Rattle.serde_json.specs.Data.{Data, null, boolean, number, string, array, object, Members}
-use Rattle.serde_json.specs.Find.{as_object}
+use Rattle.serde_json.specs.Data.{Data, null, boolean, number, string, array, object}
 use Rattle.serde_json.specs.Read.{read}
 use Rattle.api_messages.specs.Members.{Cell, Row}
-use Rattle.api_messages.specs.Meaning.{most_bytes, IsBody, IsNoJson, IsObject, Means, IsFirstFaulty, IsMessage, HasFault}
-use Rattle.api_messages.specs.Reading.{◌>>=◌, or_fault, json_at, value_at, is_object, as_message, object_at, cells_at, message_at}
+use Rattle.api_messages.specs.Meaning.{most_bytes, IsBody, IsNoJson, IsObject, Means, IsMessage, HasFault}
+use Rattle.api_messages.specs.Reading.{◌>>=◌, value_at, is_object, as_message, object_at, message_at}
 use Rattle.api_messages.specs.declared.fault.MessageFault.{MessageFault}
 use Rattle.api_messages.specs.declared.fault.MessageFault.TheVariants as faults
 use Rattle.api_messages.proofs.Bodies.{value_at-json, value_at-none}

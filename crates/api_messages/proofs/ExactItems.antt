@@ -1,15 +1,13 @@
 -- Reading gives exactly what a callback means.
-use Rattle.std.proofs.Common.{◌≡◌, ℕ, ◌<◌, ◌≤◌, List, [], ◌∷◌, ◌++◌, length, Bool, true, false, cond, Option, Some, None, Result, Ok, Err, refl, sym, ap, subst, ◌∙◌, inl, inr, append-nil, append_assoc, arith}
-use Rattle.std.specs.Prelude.{◌⊎◌, ◌&&◌, nat_lt, is_some, option_map}
-use Rattle.std.specs.List.{list_all}
+use Rattle.std.proofs.Common.{◌≡◌, ℕ, ◌<◌, ◌≤◌, List, [], ◌∷◌, ◌++◌, length, Bool, true, false, Ok, Err, refl, sym, ap, subst, ◌∙◌, inl, inr, append-nil, append_assoc}
+use Rattle.std.specs.Prelude.{◌⊎◌, ◌&&◌}
 use Rattle.std.proofs.lemmas.Bool.{cases_lt, le-ltb, lt-ltb}
 use Rattle.serde_json.specs.Data.{Data, null, boolean, number, string, array, object, Items, no_items, item}
-use Rattle.serde_json.specs.Find.{as_array}
 use Rattle.serde_json.specs.View.{items_of}
-use Rattle.api_messages.specs.Members.{Cell, Row}
+use Rattle.api_messages.specs.Members.{Cell}
 use Rattle.api_messages.specs.Tables.{item_rows}
-use Rattle.api_messages.specs.Meaning.{most_bytes, most_items, IsBody, IsNoJson, IsObject, IsArray, AreObjects, Means, MeansAll, IsFirstFaulty, IsFirstFaultyItem, IsCallback, HasCallbackFault}
-use Rattle.api_messages.specs.Reading.{◌>>=◌, or_fault, value_at, is_object, cells_at, list_of, all_objects, items_from, items_at, array_in, results_in, callbacks_at}
+use Rattle.api_messages.specs.Meaning.{most_bytes, most_items, IsBody, IsNoJson, IsArray, AreObjects, Means, MeansAll, IsFirstFaulty, IsFirstFaultyItem, IsCallback, HasCallbackFault}
+use Rattle.api_messages.specs.Reading.{◌>>=◌, value_at, cells_at, list_of, all_objects, items_from, items_at, array_in, results_in, callbacks_at}
 use Rattle.api_messages.specs.declared.fault.MessageFault.{MessageFault}
 use Rattle.api_messages.specs.declared.fault.MessageFault.TheVariants as faults
 use Rattle.api_messages.proofs.Bodies.{value_at-none}

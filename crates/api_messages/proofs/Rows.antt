@@ -1,5 +1,5 @@
 -- A message is read row by row: the next row has its value, or the fault.
-use Rattle.std.proofs.Common.{◌≡◌, List, [], ◌∷◌, ◌++◌, Result, Ok, Err, refl, inl, inr}
+use Rattle.std.proofs.Common.{◌≡◌, List, [], ◌∷◌, ◌++◌, Result, Ok, refl, inl, inr}
 use Rattle.serde_json.specs.Data.{Data}
 use Rattle.api_messages.specs.Members.{Cell, Row}
 use Rattle.api_messages.specs.Reading.{Fails, cell_at, cells_from}

@@ -1,10 +1,10 @@
 -- The items of a callback as they are written, one by one.
-use Rattle.std.proofs.Common.{◌≡◌, ℕ, ◌+◌, ◌<◌, ◌≤◌, List, [], ◌∷◌, ◌++◌, length, get_or, take, map, max, Bool, true, false, Result, Ok, Err, refl, sym, ap, subst, ◌∙◌, append_assoc, append-nil, Some, arith}
+use Rattle.std.proofs.Common.{◌≡◌, ℕ, ◌+◌, ◌<◌, ◌≤◌, List, [], ◌∷◌, ◌++◌, length, get_or, take, map, true, false, Result, Ok, Err, refl, sym, ap, subst, ◌∙◌, append_assoc, append-nil, Some, arith}
 use Rattle.std.specs.Prelude.{IfOk}
 use Rattle.std.specs.Str.{IsUtf8}
-use Rattle.std.proofs.lemmas.List.{take_more, map_push, take_all, length-map}
+use Rattle.std.proofs.lemmas.List.{take_more, map_push, length-map}
 use Rattle.std.proofs.lemmas.Bool.{le-ltb}
-use Rattle.serde_json.specs.Data.{Data, array, depth, items_depth}
+use Rattle.serde_json.specs.Data.{Data, depth, items_depth}
 use Rattle.serde_json.specs.Read.{read, max_depth}
 use Rattle.serde_json.specs.View.{view, items_of}
 use Rattle.serde_json.specs.Written.{has_float, items_have_float, compact_text}
@@ -15,7 +15,7 @@ use Rattle.api_messages.specs.Members.{Cell}
 use Rattle.api_messages.specs.Tables.{item_rows}
 use Rattle.api_messages.specs.Meaning.{most_bytes, most_items}
 use Rattle.api_messages.specs.Seen.{item_cells}
-use Rattle.api_messages.specs.Reading.{items_from, items_at, all_objects, results_in, callbacks_at}
+use Rattle.api_messages.specs.Reading.{items_from, all_objects, results_in, callbacks_at}
 use Rattle.api_messages.specs.Writing.{Fit, FitAll, object_of, array_of}
 use Rattle.api_messages.proofs.Again.{cells_again, flat_members}
 use Rattle.api_messages.proofs.Bodies.{value_at-json}

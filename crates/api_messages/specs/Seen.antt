@@ -1,5 +1,5 @@
 -- The values of a message, in the order of its rows.
-use Rattle.std.specs.Prelude.{ℕ, pos, List, [], ◌∷◌, option_map}
+use Rattle.std.specs.Prelude.{pos, List, [], ◌∷◌, option_map}
 use Rattle.serde_json.specs.View.{view}
 use Rattle.job_values.specs.declared.run.CallbackItem.{CallbackItem}
 use Rattle.api_messages.specs.Members.{Cell, int, text, bool, text_or_none, value_or_none}

@@ -1,5 +1,5 @@
 -- The members of each message, in byte order of their names.
-use Rattle.std.specs.Prelude.{ℕ, ℤ, pos, negsuc, List, [], ◌∷◌, codes}
+use Rattle.std.specs.Prelude.{pos, negsuc, List, [], ◌∷◌, codes}
 use Rattle.api_messages.specs.Members.{none, int, text, Kind, whole, not_negative, text_within, any_text, cut_text, truth, any_value, Row, required, optional}
 
 -- the numbers of 31 bits, of 32 bits with a sign, and the ids of jobs and of logs

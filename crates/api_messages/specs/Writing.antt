@@ -1,5 +1,5 @@
 -- What is written for a message, and which messages are read back from it.
-use Rattle.std.specs.Prelude.{◌≡◌, ◌≢◌, ℕ, ◌≤◌, ℤ, pos, ◌≤ℤ◌, List, [], ◌∷◌, length, map, Bool, true, false, Some, is_some, if◌then◌else◌}
+use Rattle.std.specs.Prelude.{◌≡◌, ◌≢◌, ℕ, ◌≤◌, pos, ◌≤ℤ◌, List, [], ◌∷◌, length, map, Some, is_some, if◌then◌else◌}
 use Rattle.serde_json.specs.Data.{Data, null, boolean, number, string, array, object, Members, no_members, member, put, depth}
 use Rattle.serde_json.specs.Find.{as_null, of_integer}
 use Rattle.serde_json.specs.View.{items_of}

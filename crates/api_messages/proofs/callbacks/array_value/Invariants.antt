@@ -1,8 +1,6 @@
-use Rattle.std.proofs.Common.{◌≡◌, map, take}
+use Rattle.std.proofs.Common.{map, take}
 use Rattle.serde_json.specs.View.{view}
-use Rattle.api_messages.specs.Tables.{item_rows}
 use Rattle.api_messages.specs.Seen.{item_cells}
-use Rattle.api_messages.specs.Writing.{FitAll, object_of}
 use Rattle.api_messages.proofs.Sent.{Sent}
 use Rattle.api_messages.proofs.callbacks.array_value.Given as goal
 

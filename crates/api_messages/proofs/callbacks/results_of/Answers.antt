@@ -1,4 +1,4 @@
-use Rattle.std.proofs.Common.{arith, inr, ◌∙◌, ap}
+use Rattle.std.proofs.Common.{arith, inr, ◌∙◌}
 use Rattle.std.proofs.lemmas.Result.{err_from_is_err_and}
 use Rattle.api_messages.proofs.Items.{not_objects, too_long, objects}
 use Rattle.api_messages.proofs.callbacks.results_of.Goals as goal

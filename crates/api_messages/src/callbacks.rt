@@ -108,7 +108,8 @@ fn array_value(alloc: Global, items: &[CallbackItem]) -> Result<Value, AllocErro
 /// The text of a callback of at most 1,000 results.
 pub fn write_callbacks(alloc: Global, items: &Seq<CallbackItem>) -> Result<Seq<u8>, NoMemory>
     ensures text { IfOk result (λ b. b ≡ compact_text (array_of (map item_cells items.now))) }
-    ensures reads { IfOk result (λ b. length b ≤ most_bytes → length items.now ≤ most_items → callbacks_at b ≡ Ok (map item_cells items.now)) }
+    ensures reads { IfOk result (λ b. length b ≤ most_bytes → length items.now ≤ most_items
+        → callbacks_at b ≡ Ok (map item_cells items.now)) }
 {
     let Ok(value) = array_value(alloc, items.as_slice()) else {
         return Err(NoMemory);

@@ -49,8 +49,10 @@ fn idle_beat_value(alloc: Global, message: &IdleBeatMessage) -> Result<Value, Al
 
 /// The text of a message.
 pub fn write_idle_beat(alloc: Global, message: &IdleBeatMessage) -> Result<Seq<u8>, NoMemory>
-    ensures text { IfOk result (λ b. b ≡ compact_text (object_of job_rows (idle_beat_cells message.now))) }
-    ensures reads { IfOk result (λ b. length b ≤ most_bytes → message_at job_rows b ≡ Ok (idle_beat_cells message.now)) }
+    ensures text { IfOk result
+        (λ b. b ≡ compact_text (object_of job_rows (idle_beat_cells message.now))) }
+    ensures reads { IfOk result (λ b. length b ≤ most_bytes
+        → message_at job_rows b ≡ Ok (idle_beat_cells message.now)) }
 {
     let Ok(value) = idle_beat_value(alloc, message) else {
         return Err(NoMemory);

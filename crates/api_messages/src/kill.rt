@@ -49,8 +49,10 @@ fn kill_value(alloc: Global, message: &KillMessage) -> Result<Value, AllocError>
 
 /// The text of a message.
 pub fn write_kill(alloc: Global, message: &KillMessage) -> Result<Seq<u8>, NoMemory>
-    ensures text { IfOk result (λ b. b ≡ compact_text (object_of job_rows (kill_cells message.now))) }
-    ensures reads { IfOk result (λ b. length b ≤ most_bytes → message_at job_rows b ≡ Ok (kill_cells message.now)) }
+    ensures text { IfOk result
+        (λ b. b ≡ compact_text (object_of job_rows (kill_cells message.now))) }
+    ensures reads { IfOk result (λ b. length b ≤ most_bytes
+        → message_at job_rows b ≡ Ok (kill_cells message.now)) }
 {
     let Ok(value) = kill_value(alloc, message) else {
         return Err(NoMemory);

@@ -60,8 +60,10 @@ fn log_value(alloc: Global, message: &LogMessage) -> Result<Value, AllocError>
 
 /// The text of a message; one whose values are within their limits is read back.
 pub fn write_log(alloc: Global, message: &LogMessage) -> Result<Seq<u8>, NoMemory>
-    ensures text { IfOk result (λ b. b ≡ compact_text (object_of log_rows (log_cells message.now))) }
-    ensures reads { IfOk result (λ b. length b ≤ most_bytes → Fit log_rows (log_cells message.now) → message_at log_rows b ≡ Ok (log_cells message.now)) }
+    ensures text { IfOk result
+        (λ b. b ≡ compact_text (object_of log_rows (log_cells message.now))) }
+    ensures reads { IfOk result (λ b. length b ≤ most_bytes → Fit log_rows (log_cells message.now)
+        → message_at log_rows b ≡ Ok (log_cells message.now)) }
 {
     let Ok(value) = log_value(alloc, message) else {
         return Err(NoMemory);

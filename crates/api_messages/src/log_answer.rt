@@ -55,7 +55,8 @@ pub fn read_log_answer(alloc: Global, bytes: &[u8]) -> Result<LogAnswer, Message
 }
 
 fn log_answer_value(alloc: Global, message: &LogAnswer) -> Result<Value, AllocError>
-    ensures value { IfOk result (λ v. view v ≡ object_of log_answer_rows (log_answer_cells message.now)) }
+    ensures value { IfOk result
+        (λ v. view v ≡ object_of log_answer_rows (log_answer_cells message.now)) }
     ensures fits { IfOk result (λ _. Fit log_answer_rows (log_answer_cells message.now)) }
 {
     json!(in alloc; {
@@ -68,8 +69,10 @@ fn log_answer_value(alloc: Global, message: &LogAnswer) -> Result<Value, AllocEr
 
 /// The text of a message.
 pub fn write_log_answer(alloc: Global, message: &LogAnswer) -> Result<Seq<u8>, NoMemory>
-    ensures text { IfOk result (λ b. b ≡ compact_text (object_of log_answer_rows (log_answer_cells message.now))) }
-    ensures reads { IfOk result (λ b. length b ≤ most_bytes → message_at log_answer_rows b ≡ Ok (log_answer_cells message.now)) }
+    ensures text { IfOk result
+        (λ b. b ≡ compact_text (object_of log_answer_rows (log_answer_cells message.now))) }
+    ensures reads { IfOk result (λ b. length b ≤ most_bytes
+        → message_at log_answer_rows b ≡ Ok (log_answer_cells message.now)) }
 {
     let Ok(value) = log_answer_value(alloc, message) else {
         return Err(NoMemory);

@@ -50,8 +50,10 @@ fn manage_value(alloc: Global, message: &ManageMessage) -> Result<Value, AllocEr
 
 /// The text of a message.
 pub fn write_manage_body(alloc: Global, message: &ManageMessage) -> Result<Seq<u8>, NoMemory>
-    ensures text { IfOk result (λ b. b ≡ compact_text (object_of manage_rows (manage_cells message.now))) }
-    ensures reads { IfOk result (λ b. length b ≤ most_bytes → message_at manage_rows b ≡ Ok (manage_cells message.now)) }
+    ensures text { IfOk result
+        (λ b. b ≡ compact_text (object_of manage_rows (manage_cells message.now))) }
+    ensures reads { IfOk result (λ b. length b ≤ most_bytes
+        → message_at manage_rows b ≡ Ok (manage_cells message.now)) }
 {
     let Ok(value) = manage_value(alloc, message) else {
         return Err(NoMemory);

@@ -63,7 +63,8 @@ fn number(
 ) -> Result<i64, MessageFault>
     requires low { ForSome missing (λ z. low ≤ℤ z) }
     requires high { ForSome missing (λ z. z ≤ℤ high) }
-    ensures value { Gives int result (cell_at (row name.now (whole low high) (option_map int missing)) (view object.now)) }
+    ensures value { Gives int result
+        (cell_at (row name.now (whole low high) (option_map int missing)) (view object.now)) }
     ensures low { IfOk result (λ z. low ≤ℤ z) }
     ensures high { IfOk result (λ z. z ≤ℤ high) }
 {
@@ -91,7 +92,8 @@ fn amount(
 ) -> Result<i64, MessageFault>
     requires low { pos 0 ≤ℤ missing }
     requires high { missing ≤ℤ high }
-    ensures value { Gives int result (cell_at (row name.now (not_negative low high) (Some (int missing))) (view object.now)) }
+    ensures value { Gives int result
+        (cell_at (row name.now (not_negative low high) (Some (int missing))) (view object.now)) }
     ensures low { IfOk result (λ z. pos 0 ≤ℤ z) }
     ensures high { IfOk result (λ z. z ≤ℤ high) }
 {
@@ -112,7 +114,8 @@ pub(crate) fn count(
     missing: u32,
 ) -> Result<u32, MessageFault>
     requires { missing ≤ 2147483647 }
-    ensures { Gives (λ n. int (pos n)) result (cell_at (optional name.now count (int (pos missing))) (view object.now)) }
+    ensures { Gives (λ n. int (pos n)) result
+        (cell_at (optional name.now count (int (pos missing))) (view object.now)) }
 {
     let n = number(
         alloc,
@@ -141,7 +144,8 @@ pub(crate) fn seconds(
     missing: u32,
 ) -> Result<i32, MessageFault>
     requires { missing ≤ 2147483647 }
-    ensures { Gives int result (cell_at (optional name.now seconds (int (pos missing))) (view object.now)) }
+    ensures { Gives int result
+        (cell_at (optional name.now seconds (int (pos missing))) (view object.now)) }
 {
     let n = amount(
         alloc,
@@ -156,7 +160,8 @@ pub(crate) fn seconds(
 
 /// A number of 64 bits, a negative one read as 0, and 0 for a missing one.
 pub(crate) fn milliseconds(alloc: Global, object: &Value, name: &str) -> Result<i64, MessageFault>
-    ensures value { Gives int result (cell_at (optional name.now milliseconds (int (pos 0))) (view object.now)) }
+    ensures value { Gives int result
+        (cell_at (optional name.now milliseconds (int (pos 0))) (view object.now)) }
     ensures low { IfOk result (λ z. pos 0 ≤ℤ z) }
 {
     amount(alloc, object, name, i64::MIN, i64::MAX, 0)
@@ -168,7 +173,8 @@ pub(crate) fn log_moment(
     object: &Value,
     name: &str,
 ) -> Result<LogMoment, MessageFault>
-    ensures { Gives (λ n. int (pos n)) result (cell_at (optional name.now milliseconds (int (pos 0))) (view object.now)) }
+    ensures { Gives (λ n. int (pos n)) result
+        (cell_at (optional name.now milliseconds (int (pos 0))) (view object.now)) }
 {
     let n = milliseconds(alloc, object, name)?;
     match LogMoment::new(n as u64) {
@@ -179,7 +185,8 @@ pub(crate) fn log_moment(
 
 /// The required `jobId`.
 pub(crate) fn job_id(alloc: Global, object: &Value) -> Result<JobId, MessageFault>
-    ensures { Gives (λ id. int (pos id)) result (cell_at (required (codes "jobId") job_number) (view object.now)) }
+    ensures { Gives (λ id. int (pos id)) result
+        (cell_at (required (codes "jobId") job_number) (view object.now)) }
 {
     let n = number(alloc, object, "jobId", 1, 2_147_483_647, None)?;
     match JobId::new(n as u32) {
@@ -190,7 +197,8 @@ pub(crate) fn job_id(alloc: Global, object: &Value) -> Result<JobId, MessageFaul
 
 /// The required `logId`.
 pub(crate) fn log_id(alloc: Global, object: &Value) -> Result<LogId, MessageFault>
-    ensures { Gives (λ id. int (pos id)) result (cell_at (required (codes "logId") log_number) (view object.now)) }
+    ensures { Gives (λ id. int (pos id)) result
+        (cell_at (required (codes "logId") log_number) (view object.now)) }
 {
     let n = number(alloc, object, "logId", 1, i64::MAX, None)?;
     match LogId::new(n as u64) {

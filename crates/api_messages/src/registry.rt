@@ -49,7 +49,8 @@ pub fn read_registry(alloc: Global, bytes: &[u8]) -> Result<RegistryMessage, Mes
 }
 
 fn registry_value(alloc: Global, message: &RegistryMessage) -> Result<Value, AllocError>
-    ensures value { IfOk result (λ v. view v ≡ object_of registry_rows (registry_cells message.now)) }
+    ensures value { IfOk result
+        (λ v. view v ≡ object_of registry_rows (registry_cells message.now)) }
 {
     json!(in alloc; {
         "registryGroup": message.registry_group.as_str(),
@@ -60,8 +61,11 @@ fn registry_value(alloc: Global, message: &RegistryMessage) -> Result<Value, All
 
 /// The text of a message; one whose values are within their limits is read back.
 pub fn write_registry(alloc: Global, message: &RegistryMessage) -> Result<Seq<u8>, NoMemory>
-    ensures text { IfOk result (λ b. b ≡ compact_text (object_of registry_rows (registry_cells message.now))) }
-    ensures reads { IfOk result (λ b. length b ≤ most_bytes → Fit registry_rows (registry_cells message.now) → message_at registry_rows b ≡ Ok (registry_cells message.now)) }
+    ensures text { IfOk result
+        (λ b. b ≡ compact_text (object_of registry_rows (registry_cells message.now))) }
+    ensures reads { IfOk result (λ b. length b ≤ most_bytes
+        → Fit registry_rows (registry_cells message.now)
+        → message_at registry_rows b ≡ Ok (registry_cells message.now)) }
 {
     let Ok(value) = registry_value(alloc, message) else {
         return Err(NoMemory);

@@ -53,7 +53,8 @@ fn put_content(
     content: &Option<Value>,
 ) -> Result<(), AllocError>
     ensures { OnOk result (members_view members.new.entries
-        ≡ put_unless_null (codes "content") (data_of (value_or_none (option_map view content.now))) (members_view members.old.entries)) }
+        ≡ put_unless_null (codes "content") (data_of (value_or_none (option_map view content.now)))
+        (members_view members.old.entries)) }
 {
     match content {
         Some(value) => {
@@ -73,7 +74,8 @@ fn put_msg(
     msg: &Option<Text>,
 ) -> Result<(), AllocError>
     ensures { OnOk result (members_view members.new.entries
-        ≡ put_unless_null (codes "msg") (data_of (text_or_none msg.now)) (members_view members.old.entries)) }
+        ≡ put_unless_null (codes "msg") (data_of (text_or_none msg.now))
+        (members_view members.old.entries)) }
 {
     match msg {
         Some(text) => put(
@@ -99,8 +101,12 @@ fn return_value(alloc: Global, message: &ReturnMessage) -> Result<Value, AllocEr
 /// The text of a message; a `content` that is null is not written.
 /// One whose content nests at most 126 deep is read back.
 pub fn write_return(alloc: Global, message: &ReturnMessage) -> Result<Seq<u8>, NoMemory>
-    ensures text { IfOk result (λ b. has_float (object_of return_rows (return_cells message.now)) ≡ false → b ≡ compact_text (object_of return_rows (return_cells message.now))) }
-    ensures reads { IfOk result (λ b. length b ≤ most_bytes → Fit return_rows (return_cells message.now) → message_at return_rows b ≡ Ok (return_cells message.now)) }
+    ensures text { IfOk result
+        (λ b. has_float (object_of return_rows (return_cells message.now)) ≡ false
+        → b ≡ compact_text (object_of return_rows (return_cells message.now))) }
+    ensures reads { IfOk result (λ b. length b ≤ most_bytes
+        → Fit return_rows (return_cells message.now)
+        → message_at return_rows b ≡ Ok (return_cells message.now)) }
 {
     let Ok(value) = return_value(alloc, message) else {
         return Err(NoMemory);

@@ -110,8 +110,10 @@ fn run_value(alloc: Global, message: &RunMessage) -> Result<Value, AllocError>
 
 /// The text of a message; one whose values are within their limits is read back.
 pub fn write_run(alloc: Global, message: &RunMessage) -> Result<Seq<u8>, NoMemory>
-    ensures text { IfOk result (λ b. b ≡ compact_text (object_of run_rows (run_cells message.now))) }
-    ensures reads { IfOk result (λ b. length b ≤ most_bytes → Fit run_rows (run_cells message.now) → message_at run_rows b ≡ Ok (run_cells message.now)) }
+    ensures text { IfOk result
+        (λ b. b ≡ compact_text (object_of run_rows (run_cells message.now))) }
+    ensures reads { IfOk result (λ b. length b ≤ most_bytes → Fit run_rows (run_cells message.now)
+        → message_at run_rows b ≡ Ok (run_cells message.now)) }
 {
     let Ok(value) = run_value(alloc, message) else {
         return Err(NoMemory);

@@ -42,7 +42,8 @@ pub(crate) fn short_text(
     most: usize,
     missing: &str,
 ) -> Result<Text, MessageFault>
-    ensures { Gives text result (cell_at (optional name.now (text_within most) (text missing.now)) (view object.now)) }
+    ensures { Gives text result
+        (cell_at (optional name.now (text_within most) (text missing.now)) (view object.now)) }
 {
     match present(object, name) {
         Some(value) => match value.as_str() {
@@ -81,7 +82,8 @@ pub(crate) fn cut_text(
     name: &str,
     most: usize,
 ) -> Result<Text, MessageFault>
-    ensures value { Gives text result (cell_at (optional name.now (cut_text most) (text [])) (view object.now)) }
+    ensures value { Gives text result
+        (cell_at (optional name.now (cut_text most) (text [])) (view object.now)) }
     ensures fits { IfOk result (λ t. length t ≤ most) }
 {
     match present(object, name) {
@@ -114,7 +116,8 @@ pub(crate) fn text_if(
     object: &Value,
     name: &str,
 ) -> Result<Option<Text>, MessageFault>
-    ensures { Gives text_or_none result (cell_at (optional name.now any_text none) (view object.now)) }
+    ensures { Gives text_or_none result
+        (cell_at (optional name.now any_text none) (view object.now)) }
 {
     match present(object, name) {
         Some(value) => match value.as_str() {
@@ -149,7 +152,8 @@ pub(crate) fn value_if(
     object: &Value,
     name: &str,
 ) -> Result<Option<Value>, MessageFault>
-    ensures { Gives (λ o. value_or_none (option_map view o)) result (cell_at (optional name.now any_value none) (view object.now)) }
+    ensures { Gives (λ o. value_or_none (option_map view o)) result
+        (cell_at (optional name.now any_value none) (view object.now)) }
 {
     match present(object, name) {
         Some(value) => match value.clone() {

@@ -11,9 +11,11 @@ use serde_json::Value;
 use std::alloc::Global;
 
 pub(crate) fn text_of(alloc: Global, value: &Value) -> Result<Seq<u8>, NoMemory>
-    ensures text { IfOk result (λ b. has_float (view value.now) ≡ false → b ≡ compact_text (view value.now)) }
+    ensures text { IfOk result (λ b. has_float (view value.now) ≡ false
+        → b ≡ compact_text (view value.now)) }
     ensures utf8 { IfOk result (λ b. IsUtf8 b) }
-    ensures reads { IfOk result (λ b. depth (view value.now) ≤ max_depth → read b ≡ Some (view value.now)) }
+    ensures reads { IfOk result (λ b. depth (view value.now) ≤ max_depth
+        → read b ≡ Some (view value.now)) }
 {
     match value.to_vec(alloc) {
         Ok(bytes) => Ok(Seq::of(bytes)),

@@ -11,3 +11,4 @@ pub mod ExactRows
 pub mod ExactBodies
 pub mod ExactItems
 pub mod Values
+pub mod Fits

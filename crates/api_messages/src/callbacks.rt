@@ -72,7 +72,7 @@ fn results_of(alloc: Global, values: &[Value]) -> Result<Seq<CallbackItem>, Mess
 /// The results of a body, or its first fault.
 #[tactic(auto, unfolding(crate::specs::Reading::callbacks_at))]
 pub fn read_callbacks(alloc: Global, bytes: &[u8]) -> Result<Seq<CallbackItem>, MessageFault>
-    ensures { Gives (map item_cells) result (callbacks_at bytes.now) }
+    ensures gives { Gives (map item_cells) result (callbacks_at bytes.now) }
 {
     let value = value_of(alloc, bytes)?;
     match value.as_array() {

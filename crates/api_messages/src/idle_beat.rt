@@ -32,7 +32,7 @@ fn idle_beat_of(alloc: Global, object: &Value) -> Result<IdleBeatMessage, Messag
 /// The message of a body, or its first fault.
 #[tactic(auto, unfolding(crate::specs::Reading::message_at))]
 pub fn read_idle_beat(alloc: Global, bytes: &[u8]) -> Result<IdleBeatMessage, MessageFault>
-    ensures { Gives idle_beat_cells result (message_at job_rows bytes.now) }
+    ensures gives { Gives idle_beat_cells result (message_at job_rows bytes.now) }
 {
     let object = object_of(alloc, bytes)?;
     idle_beat_of(alloc, &object)

@@ -32,7 +32,7 @@ fn kill_of(alloc: Global, object: &Value) -> Result<KillMessage, MessageFault>
 /// The message of a body, or its first fault.
 #[tactic(auto, unfolding(crate::specs::Reading::message_at))]
 pub fn read_kill(alloc: Global, bytes: &[u8]) -> Result<KillMessage, MessageFault>
-    ensures { Gives kill_cells result (message_at job_rows bytes.now) }
+    ensures gives { Gives kill_cells result (message_at job_rows bytes.now) }
 {
     let object = object_of(alloc, bytes)?;
     kill_of(alloc, &object)

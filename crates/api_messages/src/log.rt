@@ -42,7 +42,8 @@ fn log_of(alloc: Global, object: &Value) -> Result<LogMessage, MessageFault>
 /// The message of a body, or its first fault.
 #[tactic(auto, unfolding(crate::specs::Reading::message_at))]
 pub fn read_log(alloc: Global, bytes: &[u8]) -> Result<LogMessage, MessageFault>
-    ensures { Gives log_cells result (message_at log_rows bytes.now) }
+    ensures gives { Gives log_cells result (message_at log_rows bytes.now) }
+    ensures fits { IfOk result (λ m. Fit log_rows (log_cells m)) }
 {
     let object = object_of(alloc, bytes)?;
     log_of(alloc, &object)

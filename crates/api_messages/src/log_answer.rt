@@ -48,7 +48,7 @@ fn log_answer_of(alloc: Global, object: &Value) -> Result<LogAnswer, MessageFaul
 /// The message of a body, or its first fault.
 #[tactic(auto, unfolding(crate::specs::Reading::message_at))]
 pub fn read_log_answer(alloc: Global, bytes: &[u8]) -> Result<LogAnswer, MessageFault>
-    ensures { Gives log_answer_cells result (message_at log_answer_rows bytes.now) }
+    ensures gives { Gives log_answer_cells result (message_at log_answer_rows bytes.now) }
 {
     let object = object_of(alloc, bytes)?;
     log_answer_of(alloc, &object)

@@ -33,7 +33,7 @@ fn manage_of(alloc: Global, object: &Value) -> Result<ManageMessage, MessageFaul
 /// The message of a body, or its first fault.
 #[tactic(auto, unfolding(crate::specs::Reading::message_at))]
 pub fn read_manage_body(alloc: Global, bytes: &[u8]) -> Result<ManageMessage, MessageFault>
-    ensures { Gives manage_cells result (message_at manage_rows bytes.now) }
+    ensures gives { Gives manage_cells result (message_at manage_rows bytes.now) }
 {
     let object = object_of(alloc, bytes)?;
     manage_of(alloc, &object)

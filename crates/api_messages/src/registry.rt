@@ -42,7 +42,8 @@ fn registry_of(alloc: Global, object: &Value) -> Result<RegistryMessage, Message
 /// The message of a body, or its first fault.
 #[tactic(auto, unfolding(crate::specs::Reading::message_at))]
 pub fn read_registry(alloc: Global, bytes: &[u8]) -> Result<RegistryMessage, MessageFault>
-    ensures { Gives registry_cells result (message_at registry_rows bytes.now) }
+    ensures gives { Gives registry_cells result (message_at registry_rows bytes.now) }
+    ensures fits { IfOk result (λ m. Fit registry_rows (registry_cells m)) }
 {
     let object = object_of(alloc, bytes)?;
     registry_of(alloc, &object)

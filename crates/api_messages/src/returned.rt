@@ -41,7 +41,7 @@ fn return_of(alloc: Global, object: &Value) -> Result<ReturnMessage, MessageFaul
 /// The message of a body, or its first fault.
 #[tactic(auto, unfolding(crate::specs::Reading::message_at))]
 pub fn read_return(alloc: Global, bytes: &[u8]) -> Result<ReturnMessage, MessageFault>
-    ensures { Gives return_cells result (message_at return_rows bytes.now) }
+    ensures gives { Gives return_cells result (message_at return_rows bytes.now) }
 {
     let object = object_of(alloc, bytes)?;
     return_of(alloc, &object)

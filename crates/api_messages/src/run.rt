@@ -83,7 +83,8 @@ fn run_of(alloc: Global, object: &Value) -> Result<RunMessage, MessageFault>
 /// The message of a body, or its first fault.
 #[tactic(auto, unfolding(crate::specs::Reading::message_at))]
 pub fn read_run(alloc: Global, bytes: &[u8]) -> Result<RunMessage, MessageFault>
-    ensures { Gives run_cells result (message_at run_rows bytes.now) }
+    ensures gives { Gives run_cells result (message_at run_rows bytes.now) }
+    ensures fits { IfOk result (λ m. Fit run_rows (run_cells m)) }
 {
     let object = object_of(alloc, bytes)?;
     run_of(alloc, &object)

@@ -1,0 +1,85 @@
+-- The members of each message, in byte order of their names.
+use Rattle.std.specs.Prelude.{pos, negsuc, List, [], ◌∷◌, codes}
+use Rattle.api_messages.specs.Members.{none, int, text, Kind, whole, not_negative, text_within, any_text, cut_text, truth, any_value, Row, required, optional}
+
+-- the numbers of 31 bits, of 32 bits with a sign, and the ids of jobs and of logs
+abbrev pub count : Kind
+count = whole (pos 0) (pos 2147483647)
+
+abbrev pub signed : Kind
+signed = whole (negsuc 2147483647) (pos 2147483647)
+
+abbrev pub job_number : Kind
+job_number = whole (pos 1) (pos 2147483647)
+
+abbrev pub log_number : Kind
+log_number = whole (pos 1) (pos 9223372036854775807)
+
+-- the numbers of 32 and of 64 bits with a sign, a negative one read as 0
+abbrev pub seconds : Kind
+seconds = not_negative (negsuc 2147483647) (pos 2147483647)
+
+abbrev pub milliseconds : Kind
+milliseconds = not_negative (negsuc 9223372036854775807) (pos 9223372036854775807)
+
+abbrev pub run_rows : List Row
+run_rows =
+    optional (codes "broadcastIndex") count (int (pos 0))
+    ∷ optional (codes "broadcastTotal") count (int (pos 1))
+    ∷ optional (codes "executorBlockStrategy") (text_within 64) (text (codes "SERIAL_EXECUTION"))
+    ∷ optional (codes "executorHandler") (text_within 255) (text [])
+    ∷ optional (codes "executorParams") (text_within 65536) (text [])
+    ∷ optional (codes "executorTimeout") seconds (int (pos 0))
+    ∷ optional (codes "glueSource") any_text (text [])
+    ∷ optional (codes "glueType") (text_within 64) (text (codes "BEAN"))
+    ∷ optional (codes "glueUpdatetime") milliseconds (int (pos 0))
+    ∷ required (codes "jobId") job_number
+    ∷ optional (codes "logDateTime") milliseconds (int (pos 0))
+    ∷ required (codes "logId") log_number
+    ∷ []
+
+-- of idleBeat and of kill
+abbrev pub job_rows : List Row
+job_rows = required (codes "jobId") job_number ∷ []
+
+abbrev pub log_rows : List Row
+log_rows =
+    optional (codes "fromLineNum") seconds (int (pos 1))
+    ∷ optional (codes "logDateTim") milliseconds (int (pos 0))
+    ∷ required (codes "logId") log_number
+    ∷ []
+
+abbrev pub log_answer_rows : List Row
+log_answer_rows =
+    required (codes "fromLineNum") signed
+    ∷ required (codes "isEnd") truth
+    ∷ optional (codes "logContent") any_text (text [])
+    ∷ required (codes "toLineNum") signed
+    ∷ []
+
+-- of each item of a callback
+abbrev pub item_rows : List Row
+item_rows =
+    required (codes "handleCode") signed
+    ∷ optional (codes "handleMsg") (cut_text 15000) (text [])
+    ∷ optional (codes "logDateTim") milliseconds (int (pos 0))
+    ∷ required (codes "logId") log_number
+    ∷ []
+
+-- of registry and of registryRemove
+abbrev pub registry_rows : List Row
+registry_rows =
+    optional (codes "registryGroup") (text_within 255) (text [])
+    ∷ optional (codes "registryKey") (text_within 255) (text [])
+    ∷ optional (codes "registryValue") (text_within 255) (text [])
+    ∷ []
+
+abbrev pub return_rows : List Row
+return_rows =
+    required (codes "code") signed
+    ∷ optional (codes "content") any_value none
+    ∷ optional (codes "msg") any_text none
+    ∷ []
+
+abbrev pub manage_rows : List Row
+manage_rows = required (codes "line") any_text ∷ []

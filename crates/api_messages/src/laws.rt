@@ -1,0 +1,26 @@
+//! What holds of every body and every message.
+ghost use Rattle.api_messages.specs.Laws.{MessageExact, FaultExact, CallbackExact, CallbackFaultExact, TablesInOrder, SameValues};
+
+/// Reading a body gives exactly the message that the body means member by member, and each refusal
+/// is exactly the first fault. This holds of every table of members.
+pub fn law_messages()
+    ensures message { MessageExact }
+    ensures fault { FaultExact }
+{}
+
+/// The same of callbacks.
+pub fn law_callbacks()
+    ensures callback { CallbackExact }
+    ensures fault { CallbackFaultExact }
+{}
+
+/// The tables have their members in byte order of the names.
+pub fn law_tables()
+    ensures { TablesInOrder }
+{}
+
+/// A message is told by the values of its rows, so that what reads back is the message that was
+/// written.
+pub fn law_values()
+    ensures { SameValues }
+{}

@@ -1,6 +1,7 @@
 -- The ring as sixty lists of tickets.
-use Rattle.std.specs.Prelude.{ℕ, ◌+◌, ◌/◌, ◌%◌, List, [], ◌∷◌, ◌++◌, length, sum_by, slice_index_or, slice_set, replicate}
+use Rattle.std.specs.Prelude.{ℕ, ◌+◌, ◌-◌, ◌/◌, ◌%◌, List, [], ◌∷◌, ◌++◌, length, sum_by, slice_index_or, slice_set, replicate}
 use Rattle.time_ring.specs.declared.ticket.Ticket.{Ticket}
+use Rattle.time_ring.specs.declared.limits.TheConstants.{SLOTS, SECOND}
 
 -- the tickets of each slot, and for how many more tickets each slot has room
 pub record Ring : Type 0 where
@@ -9,15 +10,15 @@ pub record Ring : Type 0 where
 
 -- the slot of a second
 abbrev pub slot_of_second : ℕ → ℕ
-slot_of_second second = second % 60
+slot_of_second second = second % SLOTS
 
 -- the slot of the second before
 abbrev pub slot_before : ℕ → ℕ
-slot_before second = (second + 59) % 60
+slot_before second = (second + (SLOTS - 1)) % SLOTS
 
 -- the slot of a moment: that of its whole second
 abbrev pub slot_of : ℕ → ℕ
-slot_of moment = slot_of_second (moment / 1000)
+slot_of moment = slot_of_second (moment / SECOND)
 
 -- the tickets in a slot
 abbrev pub tickets_in : List (List Ticket) → ℕ → List Ticket
@@ -42,4 +43,4 @@ ticket_count slots = sum_by length slots
 
 -- sixty slots without tickets
 unfoldable pub no_tickets : List (List Ticket)
-no_tickets = replicate 60 []
+no_tickets = replicate SLOTS []

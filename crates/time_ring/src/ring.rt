@@ -2,9 +2,10 @@
 ghost use Rattle.std.specs.Prelude.{◌≡◌, ℕ, ◌-◌, ◌<◌, ◌≤◌, [], length, min, replicate, slice_set, IfOk, OnOk, OnErr};
 ghost use Rattle.time_ring.specs.Ring.{slot_of, slot_of_second, slot_before, tickets_in, room_in, with_ticket, after_turn, no_tickets, ticket_count};
 
+use super::limits::{SECOND, SLOTS};
 use super::slot::Slot;
 use super::slots::{
-    SLOTS, clear_slots, count_tickets, empty_slots, put_slot, reserve_slot, slots_at, take_slots,
+    clear_slots, count_tickets, empty_slots, put_slot, reserve_slot, slots_at, take_slots,
 };
 use super::ticket::{Taken, Ticket};
 use job_values::{Moment, NoMemory};
@@ -20,6 +21,7 @@ pub struct TimeRing {
 
 impl Model for TimeRing {
     ghost use Rattle.std.specs.Prelude.{◌≡◌, vec_len};
+    ghost use Rattle.time_ring.specs.declared.limits.TheConstants.{SLOTS};
     ghost use Rattle.time_ring.specs.Ring.{Ring};
     ghost use Rattle.time_ring.specs.Slot.{lists_of, rooms_of};
 
@@ -27,7 +29,7 @@ impl Model for TimeRing {
 
     ghost view = { λ r. record { slots = lists_of r.slots.items; room = rooms_of r.slots.items } };
 
-    ghost invariant = { λ r. vec_len r.slots ≡ 60 };
+    ghost invariant = { λ r. vec_len r.slots ≡ SLOTS };
 }
 
 impl TimeRing {
@@ -48,7 +50,7 @@ impl TimeRing {
         ensures same { self.new.slots ≡ self.old.slots }
         ensures room { (slot : ℕ) → room_in self.old.room slot ≤ room_in self.new.room slot }
     {
-        let second = due.get() / 1000;
+        let second = due.get() / SECOND;
         reserve_slot(&mut self.slots, second, count)
     }
 

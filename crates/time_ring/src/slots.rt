@@ -3,24 +3,22 @@ ghost use Rattle.std.specs.Prelude.{◌≡◌, ℕ, ◌-◌, ◌<◌, ◌≤◌,
 ghost use Rattle.time_ring.specs.Ring.{slot_of_second, slot_before, slot_of, tickets_in, room_in, with_ticket, after_turn, no_tickets, ticket_count};
 ghost use Rattle.time_ring.specs.Slot.{lists_of, rooms_of};
 
+use super::limits::{SECOND, SLOTS};
 use super::slot::Slot;
 use super::ticket::{Taken, Ticket};
 use job_values::{NoMemory, Seq};
 use std::alloc::Global;
 
-/// How many slots a ring has: one for each second of a minute.
-pub const SLOTS: u64 = 60;
-
 pub(crate) fn slot_at(second: u64) -> usize
     ensures slot { result ≡ slot_of_second second }
-    ensures within { result < 60 }
+    ensures within { result < SLOTS }
 {
     (second % SLOTS) as usize
 }
 
 pub(crate) fn slot_past(second: u64) -> usize
     ensures slot { result ≡ slot_before second }
-    ensures within { result < 60 }
+    ensures within { result < SLOTS }
 {
     ((second % SLOTS + (SLOTS - 1)) % SLOTS) as usize
 }
@@ -37,33 +35,33 @@ pub(crate) fn empty_slots(alloc: Global, count: usize) -> Result<Vec<Slot>, NoMe
 }
 
 pub(crate) fn reserve_slot(slots: &mut Vec<Slot>, second: u64, count: usize) -> Result<(), NoMemory>
-    requires { vec_len slots.old ≡ 60 }
+    requires { vec_len slots.old ≡ SLOTS }
     ensures ok { OnOk result (count ≤ room_in (rooms_of slots.new.items) (slot_of_second second)) }
     ensures same { lists_of slots.new.items ≡ lists_of slots.old.items }
     ensures room { (slot : ℕ) → room_in (rooms_of slots.old.items) slot ≤ room_in (rooms_of slots.new.items) slot }
-    ensures sixty { vec_len slots.new ≡ 60 }
+    ensures sixty { vec_len slots.new ≡ SLOTS }
 {
     let slot = &mut slots[slot_at(second)];
     slot.reserve(count)
 }
 
 pub(crate) fn put_slot(slots: &mut Vec<Slot>, ticket: Ticket)
-    requires sixty { vec_len slots.old ≡ 60 }
+    requires sixty { vec_len slots.old ≡ SLOTS }
     requires room { 0 < room_in (rooms_of slots.old.items) (slot_of ticket.due) }
     ensures lists { lists_of slots.new.items ≡ with_ticket (lists_of slots.old.items) ticket }
     ensures room { rooms_of slots.new.items ≡ slice_set (rooms_of slots.old.items) (slot_of ticket.due) (room_in (rooms_of slots.old.items) (slot_of ticket.due) - 1) }
-    ensures sixty { vec_len slots.new ≡ 60 }
+    ensures sixty { vec_len slots.new ≡ SLOTS }
 {
-    let slot = &mut slots[slot_at(ticket.due.get() / 1000)];
+    let slot = &mut slots[slot_at(ticket.due.get() / SECOND)];
     slot.put(ticket);
 }
 
 pub(crate) fn take_slots(slots: &mut Vec<Slot>, alloc: Global, second: u64) -> Taken
-    requires { vec_len slots.old ≡ 60 }
+    requires { vec_len slots.old ≡ SLOTS }
     ensures present { result.present ≡ tickets_in (lists_of slots.old.items) (slot_of_second second) }
     ensures past { result.past ≡ tickets_in (lists_of slots.old.items) (slot_before second) }
     ensures emptied { lists_of slots.new.items ≡ after_turn (lists_of slots.old.items) second }
-    ensures sixty { vec_len slots.new ≡ 60 }
+    ensures sixty { vec_len slots.new ≡ SLOTS }
 {
     let present = take_slot(slots, alloc, slot_at(second));
     let past = take_slot(slots, alloc, slot_past(second));
@@ -90,7 +88,7 @@ pub(crate) fn clear_slots(slots: &mut Vec<Slot>)
 }
 
 pub(crate) fn slots_at(slots: &Vec<Slot>, second: u64) -> (&[Ticket], &[Ticket])
-    requires { vec_len slots.now ≡ 60 }
+    requires { vec_len slots.now ≡ SLOTS }
     ensures present { result.0.now ≡ tickets_in (lists_of slots.now.items) (slot_of_second second) }
     ensures past { result.1.now ≡ tickets_in (lists_of slots.now.items) (slot_before second) }
 {

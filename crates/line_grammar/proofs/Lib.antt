@@ -1,0 +1,6 @@
+pub mod Lists
+pub mod Algebra
+pub mod Machines
+pub mod Decimals
+pub mod Keywords
+pub mod Steps

@@ -1,0 +1,6 @@
+pub mod Ends
+pub mod Reading
+pub mod Languages
+pub mod Automata
+pub mod Numbers
+pub mod Choices

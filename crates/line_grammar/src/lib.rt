@@ -1,0 +1,14 @@
+//! Lines of bytes as one language: words with one spelling each, grammars whose branches depend on
+//! what a word says, a reader that stops at the exact column, and writers of the words.
+#![tactic(auto)]
+
+mod choices;
+mod ends;
+mod faults;
+mod numbers;
+mod reading;
+
+pub use ends::End;
+pub use faults::ReadError;
+pub use numbers::{NumberForm, NumberMove, NumberStage};
+pub use reading::Reader;

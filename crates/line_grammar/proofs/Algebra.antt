@@ -67,17 +67,20 @@ stops_first {V} {W} L M first second l m bytes left e =
     let v = s.begins.0 in
     let n = (m v).some in
     record {
-      front = s.front; back = s.back; parts = s.parts; left_is = s.left_is;
+      front = s.front;
+      back = s.back;
+      parts = s.parts;
+      left_is = s.left_is;
       begins = (n.0, s.begins.1 ++ n.1, (v, s.front ++ s.begins.1, n.1, s.begins.2, n.2, sym (append_assoc s.front s.begins.1 n.1)));
       longest = λ b more back_is begun.
-        let t = begun.2 in
-        let whole : (s.front ++ b ∷ []) ++ begun.1 ≡ t.1 ++ t.2 = t.5 in
-        let regroup : t.1 ++ t.2 ≡ s.front ++ (b ∷ begun.1) = sym whole ∙ append_assoc s.front (b ∷ []) begun.1 in
-        longer (t.1) (t.2) s.front b begun.1 regroup ⊥
+          let t = begun.2 in
+          let whole : (s.front ++ b ∷ []) ++ begun.1 ≡ t.1 ++ t.2 = t.5 in
+          let regroup : t.1 ++ t.2 ≡ s.front ++ (b ∷ begun.1) = sym whole ∙ append_assoc s.front (b ∷ []) begun.1 in
+          longer (t.1) (t.2) s.front b begun.1 regroup ⊥
           (λ more_first front_is. s.longest b more back_is (t.0, more_first, subst (L t.0) (front_is ∙ sym (append_assoc s.front (b ∷ []) more_first)) t.3))
           (λ rest front_is.
-            let bytes_is : bytes ≡ t.1 ++ (rest ++ s.back) = s.parts ∙ ap (λ (x : List ℕ). x ++ s.back) front_is ∙ append_assoc t.1 rest s.back in
-            ok≢err (t.0, rest ++ s.back) left (first bytes) (ap first bytes_is ∙ l.again t.0 t.1 (rest ++ s.back) t.3) e);
+          let bytes_is : bytes ≡ t.1 ++ (rest ++ s.back) = s.parts ∙ ap (λ (x : List ℕ). x ++ s.back) front_is ∙ append_assoc t.1 rest s.back in
+          ok≢err (t.0, rest ++ s.back) left (first bytes) (ap first bytes_is ∙ l.again t.0 t.1 (rest ++ s.back) t.3) e);
     }
 
 -- the first word is said, and the second cannot be finished
@@ -87,17 +90,19 @@ stops_second {V} {W} L M first second l m bytes left x e d =
     let f = l.found bytes x.0 x.1 e in
     let s = (m x.0).stops x.1 left d in
     record {
-      front = f.0 ++ s.front; back = s.back; left_is = s.left_is;
+      front = f.0 ++ s.front;
+      back = s.back;
+      left_is = s.left_is;
       parts = f.2 ∙ ap (λ (t : List ℕ). f.0 ++ t) s.parts ∙ sym (append_assoc f.0 s.front s.back);
       begins = (s.begins.0, s.begins.1, (x.0, f.0, s.front ++ s.begins.1, f.1, s.begins.2, append_assoc f.0 s.front s.begins.1));
       longest = λ b more back_is begun.
-        let t = begun.2 in
-        let behind : List ℕ = (s.front ++ b ∷ []) ++ begun.1 in
-        let here : first (f.0 ++ behind) ≡ Ok (x.0, behind) = l.again x.0 f.0 behind f.1 in
-        let there : first (t.1 ++ t.2) ≡ Ok (t.0, t.2) = l.again t.0 t.1 t.2 t.3 in
-        let same : f.0 ++ behind ≡ t.1 ++ t.2 = sym (append_assoc f.0 (s.front ++ b ∷ []) begun.1) ∙ ap (λ (u : List ℕ). u ++ begun.1) (sym (append_assoc f.0 s.front (b ∷ []))) ∙ t.5 in
-        let pairs : (x.0, behind) ≡ (t.0, t.2) = ok_is (x.0, behind) (t.0, t.2) (sym here ∙ ap first same ∙ there) in
-        s.longest b more back_is (begun.0, begun.1, subst (λ (p : V × List ℕ). M p.0 begun.0 p.1) (sym pairs) t.4);
+          let t = begun.2 in
+          let behind : List ℕ = (s.front ++ b ∷ []) ++ begun.1 in
+          let here : first (f.0 ++ behind) ≡ Ok (x.0, behind) = l.again x.0 f.0 behind f.1 in
+          let there : first (t.1 ++ t.2) ≡ Ok (t.0, t.2) = l.again t.0 t.1 t.2 t.3 in
+          let same : f.0 ++ behind ≡ t.1 ++ t.2 = sym (append_assoc f.0 (s.front ++ b ∷ []) begun.1) ∙ ap (λ (u : List ℕ). u ++ begun.1) (sym (append_assoc f.0 s.front (b ∷ []))) ∙ t.5 in
+          let pairs : (x.0, behind) ≡ (t.0, t.2) = ok_is (x.0, behind) (t.0, t.2) (sym here ∙ ap first same ∙ there) in
+          s.longest b more back_is (begun.0, begun.1, subst (λ (p : V × List ℕ). M p.0 begun.0 p.1) (sym pairs) t.4);
     }
 
 -- a word and another behind it, which may depend on what the first said
@@ -107,9 +112,9 @@ then_reads {V} {W} L M first second l m = record {
   again = λ w text rest t. then_again L M first second l m w text rest t;
   stops = λ bytes left e. bind_err (first bytes) (λ (x : V × List ℕ). second x.0 x.1) left (Stops (Then L M) bytes left) e (λ d. stops_first L M first second l m bytes left d) (λ x at d. stops_second L M first second l m bytes left x at d);
   some =
-    let v = l.some in
-    let w = (m v.0).some in
-    (w.0, v.1 ++ w.1, (v.0, v.1, w.1, v.2, w.2, refl));
+      let v = l.some in
+      let w = (m v.0).some in
+      (w.0, v.1 ++ w.1, (v.0, v.1, w.1, v.2, w.2, refl));
 }
 
 -- a reading function that gives the same reads the same

@@ -131,12 +131,12 @@ number_ends form bounds Zero front b n h e =
     let p = zero_ends (eqb b (end_byte form.behind_zero)) n e in
     let at : b ≡ end_byte form.behind_zero = eqb-true b (end_byte form.behind_zero) p.0 in
     subst (λ (k : ℕ). IsNumber form k (front ++ b ∷ [])) p.1
-      (omega (arith, h.0), omega arith, ap (λ (x : List ℕ). x ++ b ∷ []) h.1 ∙ ap (λ (k : ℕ). 48 ∷ k ∷ []) at ∙ ap (λ (x : List ℕ). x ++ end_byte form.behind_zero ∷ []) (sym (decimal_digit 0 (omega arith))))
+    (omega (arith, h.0), omega arith, ap (λ (x : List ℕ). x ++ b ∷ []) h.1 ∙ ap (λ (k : ℕ). 48 ∷ k ∷ []) at ∙ ap (λ (x : List ℕ). x ++ end_byte form.behind_zero ∷ []) (sym (decimal_digit 0 (omega arith))))
 number_ends form bounds (Value m) front b n h e =
     let p = value_ends (ltb b 48 || ltb 57 b) (eqb b (end_byte form.behind)) (leb (10 * m + (b - 48)) form.greatest) m (10 * m + (b - 48)) n e in
     let at : b ≡ end_byte form.behind = eqb-true b (end_byte form.behind) p.0 in
     subst (λ (k : ℕ). IsNumber form k (front ++ b ∷ [])) p.1
-      (omega (arith, h.0, bounds.low), h.1, ap (λ (x : List ℕ). x ++ b ∷ []) h.2 ∙ ap (λ (k : ℕ). decimal m ++ k ∷ []) at ∙ ap (λ (x : End). decimal m ++ end_byte x ∷ []) (sym (end_of-pos form m h.0)))
+    (omega (arith, h.0, bounds.low), h.1, ap (λ (x : List ℕ). x ++ b ∷ []) h.2 ∙ ap (λ (k : ℕ). decimal m ++ k ∷ []) at ∙ ap (λ (x : End). decimal m ++ end_byte x ∷ []) (sym (end_of-pos form m h.0)))
 
 number_begins : (form : NumberForm) → Bounds form → (s : NumberStage) (front : List ℕ) → Stands form s front → Begins (IsNumber form) front
 number_begins form bounds First front h = (1, number_text form 1, (bounds.low, bounds.high, ap (λ (x : List ℕ). x ++ number_text form 1) h))
@@ -159,16 +159,16 @@ leads form bounds zero n le one high x = absurd (omega arith)
 leads form bounds (suc fuel) n le one high x =
     elim (cases_lt n 10) [
       | inl lt ↦
-        let at : number_step form First (48 + n) ≡ Goes (Value (48 + n - 48)) = first_on form (48 + n) (omega arith) (omega arith) (omega arith) in
-        let back : 48 + n - 48 ≡ n = omega arith in
-        ap (λ (t : List ℕ). run (number_step form) First (t ++ x)) (decimal_digit n lt) ∙ ap (λ (s : Step NumberStage ℕ). after s (λ t. run (number_step form) t x) x) at ∙ ap (λ (k : ℕ). run (number_step form) (Value k) x) back
+          let at : number_step form First (48 + n) ≡ Goes (Value (48 + n - 48)) = first_on form (48 + n) (omega arith) (omega arith) (omega arith) in
+          let back : 48 + n - 48 ≡ n = omega arith in
+          ap (λ (t : List ℕ). run (number_step form) First (t ++ x)) (decimal_digit n lt) ∙ ap (λ (s : Step NumberStage ℕ). after s (λ t. run (number_step form) t x) x) at ∙ ap (λ (k : ℕ). run (number_step form) (Value k) x) back
       | inr ge ↦
-        let d : ℕ = 48 + n % 10 in
-        let next_is : 10 * (n / 10) + (d - 48) ≡ n = omega arith in
-        let at : number_step form (Value (n / 10)) d ≡ Goes (Value (10 * (n / 10) + (d - 48))) = value_on form (n / 10) d (omega arith) (omega arith) (omega arith) in
-        let small : n < 2 ^ 64 = omega (arith, bounds.small) in
-        let before = leads form bounds fuel (n / 10) (omega arith) (omega arith) (omega arith) (d ∷ x) in
-        ap (λ (t : List ℕ). run (number_step form) First (t ++ x)) (decimal_step n ge small) ∙ ap (run (number_step form) First) (append_assoc (decimal (n / 10)) (d ∷ []) x) ∙ before
+          let d : ℕ = 48 + n % 10 in
+          let next_is : 10 * (n / 10) + (d - 48) ≡ n = omega arith in
+          let at : number_step form (Value (n / 10)) d ≡ Goes (Value (10 * (n / 10) + (d - 48))) = value_on form (n / 10) d (omega arith) (omega arith) (omega arith) in
+          let small : n < 2 ^ 64 = omega (arith, bounds.small) in
+          let before = leads form bounds fuel (n / 10) (omega arith) (omega arith) (omega arith) (d ∷ x) in
+          ap (λ (t : List ℕ). run (number_step form) First (t ++ x)) (decimal_step n ge small) ∙ ap (run (number_step form) First) (append_assoc (decimal (n / 10)) (d ∷ []) x) ∙ before
           ∙ ap (λ (s : Step NumberStage ℕ). after s (λ t. run (number_step form) t x) x) at ∙ ap (λ (k : ℕ). run (number_step form) (Value k) x) next_is
     ]
 

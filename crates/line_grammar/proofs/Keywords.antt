@@ -150,10 +150,14 @@ words_stop word words bytes left e =
     ] where
       stop : (front back : List ℕ) → bytes ≡ front ++ back → length back ≡ left → Begins (IsWord (word ∷ words)) front → Keep (word ∷ words) bytes left → Stops (IsWord (word ∷ words)) bytes left
       stop front back parts left_is begins keep = record {
-        front = front; back = back; parts = parts; left_is = left_is; begins = begins;
+        front = front;
+        back = back;
+        parts = parts;
+        left_is = left_is;
+        begins = begins;
         longest = λ b more back_is begun.
-          let short = keep begun.0 ((front ++ b ∷ []) ++ begun.1) begun.2 (front ++ b ∷ []) more begun.1 (parts ∙ ap (λ (x : List ℕ). front ++ x) back_is ∙ sym (append_assoc front (b ∷ []) more)) refl in
-          omega (arith, ap length back_is);
+            let short = keep begun.0 ((front ++ b ∷ []) ++ begun.1) begun.2 (front ++ b ∷ []) more begun.1 (parts ∙ ap (λ (x : List ℕ). front ++ x) back_is ∙ sym (append_assoc front (b ∷ []) more)) refl in
+            omega (arith, ap length back_is);
       }
 
 -- the words of a list, none of which begins another, are read as they are spelled

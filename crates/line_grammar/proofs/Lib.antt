@@ -4,3 +4,4 @@ pub mod Machines
 pub mod Decimals
 pub mod Keywords
 pub mod Steps
+pub mod Utf8

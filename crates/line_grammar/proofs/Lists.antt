@@ -12,5 +12,5 @@ longer (a ∷ x) y [] b more e P past short = past x (ap (λ (c : ℕ). c ∷ x)
 longer (a ∷ x) y (c ∷ front) b more e P past short =
     let p = cons_parts a c (x ++ y) (front ++ (b ∷ more)) e in
     longer x y front b more p.1 P
-      (λ others h. past others (ap (λ (t : List ℕ). a ∷ t) h ∙ ap (λ (k : ℕ). k ∷ (front ++ (b ∷ others))) p.0))
-      (λ rest h. short rest (ap (λ (k : ℕ). k ∷ front) (sym p.0) ∙ ap (λ (t : List ℕ). a ∷ t) h))
+    (λ others h. past others (ap (λ (t : List ℕ). a ∷ t) h ∙ ap (λ (k : ℕ). k ∷ (front ++ (b ∷ others))) p.0))
+    (λ rest h. short rest (ap (λ (k : ℕ). k ∷ front) (sym p.0) ∙ ap (λ (t : List ℕ). a ∷ t) h))

@@ -60,7 +60,11 @@ module _ {S V : Type 0} (L : V → List ℕ → Type 0) (step : S → ℕ → St
   stops_step s front b bytes left (Goes t) is stands leads on e = stops_on front bytes b left (on t (m.goes s front b t stands is) (leads_on s front b t leads is) e)
   stops_step s front b bytes left (Ends w) is stands leads on e = absurd (ok≢err (w, bytes) left (Ok (w, bytes)) refl e)
   stops_step s front b bytes left Refuses is stands leads on e = record {
-    front = front; back = b ∷ bytes; parts = refl; left_is = err_is (V × List ℕ) (suc (length bytes)) left e; begins = m.begins s front stands;
+    front = front;
+    back = b ∷ bytes;
+    parts = refl;
+    left_is = err_is (V × List ℕ) (suc (length bytes)) left e;
+    begins = m.begins s front stands;
     longest = λ c more back_is begun. refused s front b leads is (subst (λ (k : ℕ). Begins L (front ++ k ∷ [])) (sym (head_is b c bytes more back_is)) begun);
   } where
     head_is : (a d : ℕ) (x y : List ℕ) → a ∷ x ≡ d ∷ y → a ≡ d
@@ -68,7 +72,11 @@ module _ {S V : Type 0} (L : V → List ℕ → Type 0) (step : S → ℕ → St
 
   stops_from : (bytes : List ℕ) (s : S) (front : List ℕ) (left : ℕ) → Stands s front → Leads s front → run step s bytes ≡ Err left → Stops L (front ++ bytes) left
   stops_from [] s front left stands leads e = record {
-    front = front; back = []; parts = refl; left_is = err_is (V × List ℕ) 0 left e; begins = m.begins s front stands;
+    front = front;
+    back = [];
+    parts = refl;
+    left_is = err_is (V × List ℕ) 0 left e;
+    begins = m.begins s front stands;
     longest = λ c more back_is begun. absurd cc;
   }
   stops_from (b ∷ bytes) s front left stands leads e = stops_step s front b bytes left (step s b) refl stands leads (λ t h k d. stops_from bytes t (front ++ b ∷ []) left h k d) e

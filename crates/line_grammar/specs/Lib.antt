@@ -4,3 +4,4 @@ pub mod Languages
 pub mod Automata
 pub mod Numbers
 pub mod Choices
+pub mod Texts

@@ -7,8 +7,10 @@ mod ends;
 mod faults;
 mod numbers;
 mod reading;
+mod texts;
 
 pub use ends::End;
 pub use faults::ReadError;
 pub use numbers::{NumberForm, NumberMove, NumberStage};
 pub use reading::Reader;
+pub use texts::{Tail, TextForm, TextMove, TextStage};

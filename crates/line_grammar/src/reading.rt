@@ -3,10 +3,13 @@ ghost use Rattle.std.specs.Prelude.{map};
 ghost use Rattle.line_grammar.specs.Reading.{Takes};
 ghost use Rattle.line_grammar.specs.Numbers.{number_at};
 ghost use Rattle.line_grammar.specs.Choices.{words_at};
+ghost use Rattle.line_grammar.specs.Texts.{text_at};
 
 use crate::choices::behind;
 use crate::faults::ReadError;
 use crate::numbers::{NumberForm, NumberMove, NumberStage};
+use crate::texts::{TextForm, TextMove, TextStage};
+use std::alloc::Global;
 
 /// Reads words from the front of the bytes that are left. After an error nothing is said of what is
 /// left.
@@ -53,5 +56,29 @@ impl Reader<'_> {
             }
         }
         Err(ReadError::Bad(least))
+    }
+    /// The bytes of a text, without the byte behind it.
+    #[tactic(auto, unfolding(crate::specs::Texts::text_at))]
+    fn text_bytes(&mut self, alloc: Global, form: TextForm) -> Result<Vec<u8>, ReadError>
+        ensures { Takes (λ v. v.items) result self.new.rest.now (text_at form self.old.rest.now) }
+    {
+        let bytes = self.rest;
+        let mut text = Vec::new(alloc);
+        let mut stage = TextStage::Opening;
+        for (i, byte) in bytes.iter().enumerate() {
+            match form.step(stage, text.len(), *byte) {
+                TextMove::Stay(next) => stage = next,
+                TextMove::Add(said, next) => {
+                    text.push(said)?;
+                    stage = next;
+                }
+                TextMove::Whole => {
+                    self.rest = &bytes[i + 1..];
+                    return Ok(text);
+                }
+                TextMove::Wrong => return Err(ReadError::Bad(bytes.len() - i)),
+            }
+        }
+        Err(ReadError::Bad(0))
     }
 }

@@ -5,3 +5,4 @@ pub mod Decimals
 pub mod Keywords
 pub mod Steps
 pub mod Utf8
+pub mod Quoted

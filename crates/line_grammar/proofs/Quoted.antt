@@ -161,3 +161,114 @@ open_moves form front raw b h =
                 (escape_plain b (ltb-false b 32 printed) (eqb-false b 34 no_quote) (eqb-false b 92 no_slash)))
               (λ t. tt))
             (λ q. lead_moves form front raw b (tail_of b) refl h))))
+
+-- behind one byte of a character's rest
+inside_next : (form : TextForm) (front raw : List ℕ) (b low high : ℕ) (more : ℕ) → IsInside form (tail low high more) front raw → low ≤ b → b ≤ high → StandsAt form (stage_behind more) (front ++ b ∷ []) (raw ++ b ∷ [])
+inside_next form front raw b low high zero h p q = record {
+  utf8 = h.whole (b ∷ []) (p, q, tt);
+  fits = omega (arith, length_push front b, h.fits);
+  said = said_push front raw [] b b (nothing_more front raw h.said) (escape_high b (omega (arith, h.low)));
+}
+inside_next form front raw b low high (suc n) h p q = record {
+  whole = on;
+  low = omega arith; between = omega arith; high = omega arith;
+  fits = omega (arith, length_push front b, h.fits);
+  said = said_push front raw [] b b (nothing_more front raw h.said) (escape_high b (omega (arith, h.low)));
+} where
+  on : (bs : List ℕ) → IsTail (tail 128 191 n) bs → IsUtf8 ((front ++ b ∷ []) ++ bs)
+  on [] m = absurd m
+  on (c ∷ bs) m = subst (λ (x : List ℕ). IsUtf8 x) (sym (append_assoc front (b ∷ []) (c ∷ bs))) (h.whole (b ∷ c ∷ bs) (p, q, (m.0, m.1, m.2)))
+
+at_add : (form : TextForm) (front raw : List ℕ) (b : ℕ) (stage : TextStage) → StandsAt form stage (front ++ b ∷ []) (raw ++ b ∷ []) → After form front raw b (Add b stage)
+at_add form front raw b stage h = h
+
+inside_moves : (form : TextForm) (s : Tail) (front raw : List ℕ) (b : ℕ) → IsInside form s front raw → After form front raw b (text_move form (Inside s) (length front) b)
+inside_moves form s front raw b h =
+    cond_both (ltb b s.low || ltb s.high b) Wrong (Add b (stage_behind s.more)) (After form front raw b) (λ t. tt) (λ t.
+      let p = or_parts (ltb b s.low) (ltb s.high b) t in
+      at_add form front raw b (stage_behind s.more) (inside_next form front raw b s.low s.high s.more h (ltb-false b s.low p.0) (ltb-false s.high b p.1)))
+
+quote_said : (b : ℕ) → (b ≡ 34) ⊎ (b ≡ 92) → (escape b ≡ (92 ∷ []) ++ b ∷ []) × (b < 128)
+quote_said b (inl is) = (ap escape is ∙ ap (λ (k : ℕ). 92 ∷ k ∷ []) (sym is), omega arith)
+quote_said b (inr is) = (ap escape is ∙ ap (λ (k : ℕ). 92 ∷ k ∷ []) (sym is), omega arith)
+
+digit_is : (b : ℕ) (t : Bool) → eqb b 49 ≡ t → (eqb b 48 || t) ≡ true → b ≡ first_digit t
+digit_is b true e d = eqb-true b 49 e
+digit_is b false e d = elim (or_cases (eqb b 48) false d) [ inl k ↦ eqb-true b 48 k | inr k ↦ absurd cc ]
+
+slash_moves : (form : TextForm) (front raw : List ℕ) (b : ℕ) → IsEscape form front raw (92 ∷ []) → After form front raw b (text_move form Slash (length front) b)
+slash_moves form front raw b h =
+    cond_both (eqb b 34 || eqb b 92) (Add b Open) _ (After form front raw b)
+      (λ t.
+        let is : (b ≡ 34) ⊎ (b ≡ 92) = elim (or_cases (eqb b 34) (eqb b 92) t) [ inl k ↦ inl (eqb-true b 34 k) | inr k ↦ inr (eqb-true b 92 k) ] in
+        let q = quote_said b is in
+        add_open form front raw (92 ∷ []) b b (utf8_push front b h.utf8 q.1) h.fits h.said q.0)
+      (λ t. cond_both (eqb b 48 || eqb b 49) (Stay (Hex (eqb b 49))) Wrong (After form front raw b)
+        (λ d. record {
+          utf8 = h.utf8; fits = h.fits;
+          said = ap (λ (x : List ℕ). x ++ b ∷ []) h.said ∙ ap (λ (x : List ℕ). 34 ∷ x) (append_assoc (spelled front) (92 ∷ []) (b ∷ [])) ∙ ap (λ (k : ℕ). 34 ∷ (spelled front ++ 92 ∷ k ∷ [])) (digit_is b (eqb b 49) refl d);
+        })
+        (λ d. tt))
+
+hex_small : (one : Bool) (d : ℕ) → d < 16 → cond one 16 0 + d < 128
+hex_small true d p = omega arith
+hex_small false d p = omega arith
+
+hex_added : (form : TextForm) (one : Bool) (front raw : List ℕ) (d b : ℕ) → IsEscape form front raw (92 ∷ first_digit one ∷ []) → d < 16 → hex_digit d ≡ b → After form front raw b (Add (cond one 16 0 + d) Open)
+hex_added form one front raw d b h p q =
+    add_open form front raw (92 ∷ first_digit one ∷ []) (cond one 16 0 + d) b (utf8_push front (cond one 16 0 + d) h.utf8 (hex_small one d p)) h.fits h.said (hex_said one d b p q)
+
+hex_moves : (form : TextForm) (one : Bool) (front raw : List ℕ) (b : ℕ) → IsEscape form front raw (92 ∷ first_digit one ∷ []) → After form front raw b (text_move form (Hex one) (length front) b)
+hex_moves form one front raw b h =
+    cond_both (ltb b 48) Wrong _ (After form front raw b) (λ t. tt) (λ t48.
+    let low : 48 ≤ b = ltb-false b 48 t48 in
+    cond_both (ltb b 58) (Add (cond one 16 0 + (b - 48)) Open) _ (After form front raw b)
+      (λ t. let lt = ltb-true b 58 t in let small : b - 48 < 10 = omega arith in let back : 48 + (b - 48) ≡ b = omega arith in
+        hex_added form one front raw (b - 48) b h (omega arith) (hex_figure (b - 48) small ∙ back))
+      (λ t58. cond_both (ltb b 97) Wrong _ (After form front raw b) (λ t. tt) (λ t97.
+      let ge : 97 ≤ b = ltb-false b 97 t97 in
+      cond_both (ltb b 103) (Add (cond one 16 0 + (b - 87)) Open) Wrong (After form front raw b)
+        (λ t. let lt = ltb-true b 103 t in let large : 10 ≤ b - 87 = omega arith in let back : 87 + (b - 87) ≡ b = omega arith in
+          hex_added form one front raw (b - 87) b h (omega arith) (hex_letter (b - 87) large ∙ back))
+        (λ t. tt))))
+
+closed_moves : (form : TextForm) (front raw : List ℕ) (b : ℕ) → IsClosed form front raw → After form front raw b (text_move form Closed (length front) b)
+closed_moves form front raw b h =
+    cond_both (eqb b (end_byte form.behind)) Whole Wrong (After form front raw b)
+      (λ t. (h.utf8, h.least, h.fits, ap (λ (x : List ℕ). x ++ b ∷ []) h.said ∙ ap (λ (x : List ℕ). 34 ∷ x) (append_assoc (spelled front) (34 ∷ []) (b ∷ [])) ∙ ap (λ (k : ℕ). 34 ∷ (spelled front ++ 34 ∷ k ∷ [])) (eqb-true b (end_byte form.behind) t)))
+      (λ t. tt)
+
+moves : (form : TextForm) (stage : TextStage) (front raw : List ℕ) (b : ℕ) → StandsAt form stage front raw → After form front raw b (text_move form stage (length front) b)
+moves form Opening front raw b h = opening_moves form front raw b h
+moves form Open front raw b h = open_moves form front raw b h
+moves form (Inside s) front raw b h = inside_moves form s front raw b h
+moves form Slash front raw b h = slash_moves form front raw b h
+moves form (Hex one) front raw b h = hex_moves form one front raw b h
+moves form Closed front raw b h = closed_moves form front raw b h
+
+abbrev pub Stands : TextForm → TextStage × List ℕ → List ℕ → Type 0
+Stands form s raw = StandsAt form s.0 s.1 raw
+
+abbrev goes : TextStage × List ℕ → Step (TextStage × List ℕ) (List ℕ)
+goes s = Goes s
+
+abbrev ends : List ℕ → Step (TextStage × List ℕ) (List ℕ)
+ends v = Ends v
+
+goes_is : (s t : TextStage × List ℕ) → goes s ≡ goes t → s ≡ t
+goes_is s t e = cc
+
+ends_is : (v w : List ℕ) → ends v ≡ ends w → v ≡ w
+ends_is v w e = cc
+
+move_goes : (form : TextForm) (front raw : List ℕ) (b : ℕ) (t : TextStage × List ℕ) (m : TextMove) → After form front raw b m → text_step_of front m ≡ goes t → Stands form t (raw ++ b ∷ [])
+move_goes form front raw b t (Stay stage) h e = subst (λ (s : TextStage × List ℕ). Stands form s (raw ++ b ∷ [])) (goes_is (stage, front) t e) h
+move_goes form front raw b t (Add c stage) h e = subst (λ (s : TextStage × List ℕ). Stands form s (raw ++ b ∷ [])) (goes_is (stage, front ++ c ∷ []) t e) h
+move_goes form front raw b t Whole h e = absurd cc
+move_goes form front raw b t Wrong h e = absurd cc
+
+move_ends : (form : TextForm) (front raw : List ℕ) (b : ℕ) (v : List ℕ) (m : TextMove) → After form front raw b m → text_step_of front m ≡ ends v → IsText form v (raw ++ b ∷ [])
+move_ends form front raw b v (Stay stage) h e = absurd cc
+move_ends form front raw b v (Add c stage) h e = absurd cc
+move_ends form front raw b v Whole h e = subst (λ (w : List ℕ). IsText form w (raw ++ b ∷ [])) (ends_is front v e) h
+move_ends form front raw b v Wrong h e = absurd cc

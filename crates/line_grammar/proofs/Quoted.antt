@@ -272,3 +272,200 @@ move_ends form front raw b v (Stay stage) h e = absurd cc
 move_ends form front raw b v (Add c stage) h e = absurd cc
 move_ends form front raw b v Whole h e = subst (λ (w : List ℕ). IsText form w (raw ++ b ∷ [])) (ends_is front v e) h
 move_ends form front raw b v Wrong h e = absurd cc
+
+-- ---- every text that was begun can be ended
+
+pub record Bounds (form : TextForm) : Type 0 where
+  pub low : form.least ≤ 1
+  pub high : 1 ≤ form.greatest
+
+pub bounds_of : (form : TextForm) → is_text_form form ≡ true → Bounds form
+bounds_of form ok =
+    let p = and_parts (leb form.least 1) (leb 1 form.greatest) ok in
+    record { low = leb-true form.least 1 p.0; high = leb-true 1 form.greatest p.1 }
+
+abbrev closing : TextForm → List ℕ
+closing form = 34 ∷ end_byte form.behind ∷ []
+
+finish_add : (front raw written rest : List ℕ) (c b : ℕ) → raw ≡ 34 ∷ (spelled front ++ written) → escape c ≡ written ++ b ∷ [] → raw ++ (b ∷ rest) ≡ 34 ∷ (spelled (front ++ c ∷ []) ++ rest)
+finish_add front raw written rest c b said is = sym (append_assoc raw (b ∷ []) rest) ∙ ap (λ (t : List ℕ). t ++ rest) (said_push front raw written c b said is)
+
+added_begins : (form : TextForm) → Bounds form → (front raw written : List ℕ) (c b : ℕ) → IsUtf8 (front ++ c ∷ []) → length front < form.greatest → raw ≡ 34 ∷ (spelled front ++ written) → escape c ≡ written ++ b ∷ [] → Begins (IsText form) raw
+added_begins form bounds front raw written c b u fits said is =
+    (front ++ c ∷ [], b ∷ closing form, (u, omega (arith, length_push front c, bounds.low), omega (arith, length_push front c), finish_add front raw written (closing form) c b said is))
+
+nexts : ℕ → List ℕ
+nexts zero = []
+nexts (suc n) = 128 ∷ nexts n
+
+nexts_fit : (n : ℕ) → AreNext n (nexts n)
+unfolding nexts
+nexts_fit zero = tt
+nexts_fit (suc n) = (omega arith, omega arith, nexts_fit n)
+
+length-nexts : (n : ℕ) → length (nexts n) ≡ n
+unfolding nexts
+length-nexts zero = refl
+length-nexts (suc n) = ap (λ (k : ℕ). suc k) (length-nexts n)
+
+spelled_next : (n : ℕ) (bs : List ℕ) → AreNext n bs → spelled bs ≡ bs
+spelled_next zero [] h = refl
+spelled_next zero (b ∷ bs) h = absurd h
+spelled_next (suc n) [] h = absurd h
+spelled_next (suc n) (b ∷ bs) h = ap (λ (t : List ℕ). t ++ spelled bs) (escape_high b h.0) ∙ ap (λ (t : List ℕ). b ∷ t) (spelled_next n bs h.2)
+
+spelled_tail : (s : Tail) (bs : List ℕ) → 128 ≤ s.low → IsTail s bs → spelled bs ≡ bs
+spelled_tail s [] low h = absurd h
+spelled_tail s (b ∷ bs) low h = ap (λ (t : List ℕ). t ++ spelled bs) (escape_high b (omega (arith, h.0))) ∙ ap (λ (t : List ℕ). b ∷ t) (spelled_next s.more bs h.2)
+
+inside_begins : (form : TextForm) → Bounds form → (s : Tail) (front raw : List ℕ) → IsInside form s front raw → Begins (IsText form) raw
+inside_begins form bounds s front raw h =
+    let bs : List ℕ = s.low ∷ nexts s.more in
+    let fits : IsTail s bs = (omega arith, h.between, nexts_fit s.more) in
+    let long : length (front ++ bs) ≡ length front + suc (length (nexts s.more)) = length-append front bs in
+    let text_is : spelled (front ++ bs) ≡ spelled front ++ bs = flat_map-append escape front bs ∙ ap (λ (t : List ℕ). spelled front ++ t) (spelled_tail s bs h.low fits) in
+    (front ++ bs, bs ++ closing form,
+      (h.whole bs fits, omega (arith, long, bounds.low, length-nexts s.more), omega (arith, long, h.fits, length-nexts s.more),
+        ap (λ (t : List ℕ). t ++ (bs ++ closing form)) h.said ∙ ap (λ (t : List ℕ). 34 ∷ t) (sym (append_assoc (spelled front) bs (closing form)) ∙ ap (λ (t : List ℕ). t ++ closing form) (sym text_is))))
+
+open_begins : (form : TextForm) → Bounds form → (front raw : List ℕ) → IsOpen form front raw → Begins (IsText form) raw
+open_begins form bounds front raw h =
+    elim (cases_lt (length front) 1) [
+      | inl lt ↦ added_begins form bounds front raw [] 97 97 (utf8_push front 97 h.utf8 (omega arith)) (omega (arith, bounds.high)) (nothing_more front raw h.said) refl
+      | inr ge ↦ (front, closing form, (h.utf8, omega (arith, bounds.low), h.fits, ap (λ (t : List ℕ). t ++ closing form) h.said))
+    ]
+
+text_begins : (form : TextForm) → Bounds form → (stage : TextStage) (front raw : List ℕ) → StandsAt form stage front raw → Begins (IsText form) raw
+text_begins form bounds Opening front raw h = (97 ∷ [], text_text form (97 ∷ []), (utf8_ascii 97 (omega arith), bounds.low, bounds.high, ap (λ (t : List ℕ). t ++ text_text form (97 ∷ [])) h.1))
+text_begins form bounds Open front raw h = open_begins form bounds front raw h
+text_begins form bounds (Inside s) front raw h = inside_begins form bounds s front raw h
+text_begins form bounds Slash front raw h = added_begins form bounds front raw (92 ∷ []) 34 34 (utf8_push front 34 h.utf8 (omega arith)) h.fits h.said refl
+text_begins form bounds (Hex one) front raw h =
+    added_begins form bounds front raw (92 ∷ first_digit one ∷ []) (cond one 16 0 + 0) 48 (utf8_push front (cond one 16 0 + 0) h.utf8 (hex_small one 0 (omega arith))) h.fits h.said (hex_said one 0 48 (omega arith) refl)
+text_begins form bounds Closed front raw h =
+    (front, end_byte form.behind ∷ [], (h.utf8, h.least, h.fits, ap (λ (t : List ℕ). t ++ end_byte form.behind ∷ []) h.said ∙ ap (λ (t : List ℕ). 34 ∷ t) (append_assoc (spelled front) (34 ∷ []) (end_byte form.behind ∷ []))))
+
+-- ---- the characters of a text are read as they are written
+
+at_slash : (form : TextForm) (front x : List ℕ) → length front < form.greatest → run (text_step form) (Open, front) (92 ∷ x) ≡ run (text_step form) (Slash, front) x
+at_slash form front x h = rw (lt-ltb (length front) form.greatest h) refl
+
+slash_digit : (form : TextForm) (one : Bool) (front x : List ℕ) → run (text_step form) (Slash, front) (first_digit one ∷ x) ≡ run (text_step form) (Hex one, front) x
+slash_digit form true front x = refl
+slash_digit form false front x = refl
+
+hex_step : (form : TextForm) (one : Bool) (front : List ℕ) (d b : ℕ) (y : List ℕ) → d < 16 → hex_digit d ≡ b → run (text_step form) (Hex one, front) (b ∷ y) ≡ run (text_step form) (Open, front ++ (cond one 16 0 + d) ∷ []) y
+hex_step form one front d b y p q =
+    elim (cases_lt d 10) [
+      | inl lt ↦ figure (48 + d) (sym (sym (hex_figure d lt) ∙ q)) (omega arith) (omega arith) (omega arith)
+      | inr ge ↦ letter (87 + d) (sym (sym (hex_letter d ge) ∙ q)) (omega arith) (omega arith) (omega arith)
+    ] where
+      figure : (k : ℕ) → b ≡ k → 48 ≤ k → k < 58 → k - 48 ≡ d → run (text_step form) (Hex one, front) (b ∷ y) ≡ run (text_step form) (Open, front ++ (cond one 16 0 + d) ∷ []) y
+      figure k is low high back = rw (is, le-ltb k 48 low, lt-ltb k 58 high, back) refl
+      letter : (k : ℕ) → b ≡ k → 97 ≤ k → k < 103 → k - 87 ≡ d → run (text_step form) (Hex one, front) (b ∷ y) ≡ run (text_step form) (Open, front ++ (cond one 16 0 + d) ∷ []) y
+      letter k is low high back =
+          let from48 : 48 ≤ k = omega arith in
+          let from58 : 58 ≤ k = omega arith in
+          rw (is, le-ltb k 48 from48, le-ltb k 58 from58, le-ltb k 97 low, lt-ltb k 103 high, back) refl
+
+control_through : (form : TextForm) (front : List ℕ) (one : Bool) (c d : ℕ) (y : List ℕ) → length front < form.greatest → d < 16 → cond one 16 0 + d ≡ c → run (text_step form) (Open, front) (escape c ++ y) ≡ run (text_step form) (Open, front ++ c ∷ []) y
+control_through form front one c d y h p is =
+    ap (λ (t : List ℕ). run (text_step form) (Open, front) (t ++ y)) (ap escape (sym is) ∙ hex_said one d (hex_digit d) p refl)
+    ∙ at_slash form front (first_digit one ∷ hex_digit d ∷ y) h ∙ slash_digit form one front (hex_digit d ∷ y) ∙ hex_step form one front d (hex_digit d) y p refl
+    ∙ ap (λ (k : ℕ). run (text_step form) (Open, front ++ k ∷ []) y) is
+
+plain_step : (form : TextForm) (front : List ℕ) (c : ℕ) (y : List ℕ) → length front < form.greatest → 32 ≤ c → c < 128 → (c ≡ 34 → ⊥) → (c ≡ 92 → ⊥) → run (text_step form) (Open, front) (c ∷ y) ≡ run (text_step form) (Open, front ++ c ∷ []) y
+plain_step form front c y h low high q s = rw (ne_eqb c 34 q, ne_eqb c 92 s, le-ltb c 32 low, lt-ltb c 128 high, lt-ltb (length front) form.greatest h) refl
+
+ascii_through : (form : TextForm) (front : List ℕ) (c : ℕ) (y : List ℕ) → length front < form.greatest → c < 128 → run (text_step form) (Open, front) (escape c ++ y) ≡ run (text_step form) (Open, front ++ c ∷ []) y
+ascii_through form front c y h small =
+    elim (cases_lt c 32) [
+      | inl control ↦ elim (cases_lt c 16) [
+        | inl lt ↦ control_through form front false c c y h lt (omega arith)
+        | inr ge ↦ control_through form front true c (c - 16) y h (omega arith) (omega arith)
+      ]
+      | inr printed ↦ elim (cases_eq c 34) [
+        | inl is ↦ ap (λ (k : ℕ). run (text_step form) (Open, front) (escape k ++ y)) is ∙ at_slash form front (34 ∷ y) h ∙ ap (λ (k : ℕ). run (text_step form) (Open, front ++ k ∷ []) y) (sym is)
+        | inr no_quote ↦ elim (cases_eq c 92) [
+          | inl is ↦ ap (λ (k : ℕ). run (text_step form) (Open, front) (escape k ++ y)) is ∙ at_slash form front (92 ∷ y) h ∙ ap (λ (k : ℕ). run (text_step form) (Open, front ++ k ∷ []) y) (sym is)
+          | inr no_slash ↦ ap (λ (t : List ℕ). run (text_step form) (Open, front) (t ++ y)) (escape_plain c printed no_quote no_slash) ∙ plain_step form front c y h printed small no_quote no_slash
+        ]
+      ]
+    ]
+
+next_step : (form : TextForm) (s : Tail) (front : List ℕ) (b : ℕ) (x : List ℕ) → s.low ≤ b → b ≤ s.high → run (text_step form) (Inside s, front) (b ∷ x) ≡ run (text_step form) (stage_behind s.more, front ++ b ∷ []) x
+next_step form s front b x p q = rw (le-ltb b s.low p, le-ltb s.high b q) refl
+
+tail_through : (form : TextForm) (bs : List ℕ) (low high more : ℕ) (front y : List ℕ) → IsTail (tail low high more) bs → run (text_step form) (Inside (tail low high more), front) (bs ++ y) ≡ run (text_step form) (Open, front ++ bs) y
+tail_through form [] low high more front y h = absurd h
+tail_through form (b ∷ []) low high zero front y h = next_step form (tail low high 0) front b y h.0 h.1
+tail_through form (b ∷ c ∷ bs) low high zero front y h = absurd h.2
+tail_through form (b ∷ []) low high (suc n) front y h = absurd h.2
+tail_through form (b ∷ c ∷ bs) low high (suc n) front y h =
+    next_step form (tail low high (suc n)) front b ((c ∷ bs) ++ y) h.0 h.1 ∙ tail_through form (c ∷ bs) 128 191 n (front ++ b ∷ []) y (h.2.0, h.2.1, h.2.2)
+    ∙ ap (λ (t : List ℕ). run (text_step form) (Open, t) y) (append_assoc front (b ∷ []) (c ∷ bs))
+
+lead_step : (form : TextForm) (front : List ℕ) (b : ℕ) (s : Tail) (x : List ℕ) → 128 ≤ b → tail_of b ≡ Some s → length front + 2 + s.more ≤ form.greatest → run (text_step form) (Open, front) (b ∷ x) ≡ run (text_step form) (Inside s, front ++ b ∷ []) x
+lead_step form front b s x high is fits =
+    let printed : 32 ≤ b = omega arith in
+    rw (ne_eqb b 34 (λ e. omega arith), ne_eqb b 92 (λ e. omega arith), le-ltb b 32 printed, le-ltb b 128 high) (on (tail_of b) is)
+  where
+    on : (o : Option Tail) → o ≡ Some s → after (text_step_of front (lead_move form (length front) b o)) (λ t. run (text_step form) t x) x ≡ run (text_step form) (Inside s, front ++ b ∷ []) x
+    on o e = ap (λ (q : Option Tail). after (text_step_of front (lead_move form (length front) b q)) (λ t. run (text_step form) t x) x) e ∙ rw (le-leb (length front + 2 + s.more) form.greatest fits) refl
+
+wide_through : (form : TextForm) (front : List ℕ) (c : ℕ) (y : List ℕ) → IsWide c → length front + length (encode c) ≤ form.greatest → run (text_step form) (Open, front) (spelled (encode c) ++ y) ≡ run (text_step form) (Open, front ++ encode c) y
+wide_through form front c y w fits =
+    let lead = lead_of w.first w.tail w.lead in
+    let bytes : List ℕ = w.first ∷ w.others in
+    let spelled_is : spelled bytes ≡ bytes = ap (λ (t : List ℕ). t ++ spelled w.others) (escape_high w.first lead.first) ∙ ap (λ (t : List ℕ). w.first ∷ t) (spelled_tail w.tail w.others lead.low w.fits) in
+    ap (λ (t : List ℕ). run (text_step form) (Open, front) (t ++ y)) (ap spelled w.bytes ∙ spelled_is)
+    ∙ lead_step form front w.first w.tail (w.others ++ y) lead.first w.lead (omega (arith, w.length_is, ap length w.bytes))
+    ∙ tail_through form w.others w.tail.low w.tail.high w.tail.more (front ++ w.first ∷ []) y w.fits
+    ∙ ap (λ (t : List ℕ). run (text_step form) (Open, t) y) (append_assoc front (w.first ∷ []) w.others ∙ ap (λ (t : List ℕ). front ++ t) (sym w.bytes))
+
+char_through : (form : TextForm) (front : List ℕ) (c : ℕ) (y : List ℕ) → scalar c ≡ true → length front + length (encode c) ≤ form.greatest → run (text_step form) (Open, front) (spelled (encode c) ++ y) ≡ run (text_step form) (Open, front ++ encode c) y
+char_through form front c y s fits =
+    elim (cases_lt c 128) [
+      | inl lt ↦
+        let one = encode_ascii c lt in
+        ap (λ (t : List ℕ). run (text_step form) (Open, front) (spelled t ++ y)) one ∙ ap (λ (t : List ℕ). run (text_step form) (Open, front) (t ++ y)) (append-nil (escape c))
+        ∙ ascii_through form front c y (omega (arith, ap length one)) lt ∙ ap (λ (t : List ℕ). run (text_step form) (Open, front ++ t) y) (sym one)
+      | inr ge ↦ wide_through form front c y (wide c s ge) fits
+    ]
+
+chars_through : (form : TextForm) (cs front y : List ℕ) → scalars cs ≡ true → length front + length (encodes cs) ≤ form.greatest → run (text_step form) (Open, front) (spelled (encodes cs) ++ y) ≡ run (text_step form) (Open, front ++ encodes cs) y
+chars_through form [] front y s fits = ap (λ (t : List ℕ). run (text_step form) (Open, t) y) (sym (append-nil front))
+chars_through form (c ∷ cs) front y s fits =
+    let p = and_parts (scalar c) (scalars cs) s in
+    let long = length-append (encode c) (encodes cs) in
+    ap (λ (t : List ℕ). run (text_step form) (Open, front) (t ++ y)) (flat_map-append escape (encode c) (encodes cs)) ∙ ap (run (text_step form) (Open, front)) (append_assoc (spelled (encode c)) (spelled (encodes cs)) y)
+    ∙ char_through form front c (spelled (encodes cs) ++ y) p.0 (omega (arith, long))
+    ∙ chars_through form cs (front ++ encode c) y p.1 (omega (arith, long, length-append front (encode c)))
+    ∙ ap (λ (t : List ℕ). run (text_step form) (Open, t) y) (append_assoc front (encode c) (encodes cs))
+
+close_step : (form : TextForm) (front rest : List ℕ) → form.least ≤ length front → run (text_step form) (Open, front) (34 ∷ end_byte form.behind ∷ rest) ≡ Ok (front, rest)
+close_step form front rest h = rw (le-leb form.least (length front) h, eq-eqb (end_byte form.behind) (end_byte form.behind) refl) refl
+
+text_again : (form : TextForm) (v text rest : List ℕ) → IsText form v text → run (text_step form) (Opening, []) (text ++ rest) ≡ Ok (v, rest)
+text_again form v text rest h =
+    let cs : List ℕ = h.0.0 in
+    let v_is : encodes cs ≡ v = h.0.1.1 in
+    let z : List ℕ = 34 ∷ end_byte form.behind ∷ rest in
+    let regroup : text ++ rest ≡ 34 ∷ (spelled (encodes cs) ++ z) = ap (λ (t : List ℕ). t ++ rest) h.3 ∙ ap (λ (t : List ℕ). 34 ∷ t) (append_assoc (spelled v) (34 ∷ end_byte form.behind ∷ []) rest ∙ ap (λ (t : List ℕ). spelled t ++ z) (sym v_is)) in
+    ap (run (text_step form) (Opening, [])) regroup
+    ∙ chars_through form cs [] z h.0.1.0 (omega (arith, h.2, ap length v_is))
+    ∙ ap (λ (t : List ℕ). run (text_step form) (Open, t) z) v_is
+    ∙ close_step form v rest h.1
+
+-- the texts of a form are read as they are spelled
+pub text_reads : (form : TextForm) → is_text_form form ≡ true → Reads (IsText form) (text_at form)
+unfolding text_at
+text_reads form ok =
+    let bounds = bounds_of form ok in
+    machine_reads (IsText form) (text_step form) (Opening, []) (Stands form) (record {
+      starts = (refl, refl);
+      goes = λ s front b t h e. move_goes form s.1 front b t (text_move form s.0 (length s.1) b) (moves form s.0 s.1 front b h) e;
+      ends = λ s front b v h e. move_ends form s.1 front b v (text_move form s.0 (length s.1) b) (moves form s.0 s.1 front b h) e;
+      begins = λ s front h. text_begins form bounds s.0 s.1 front h;
+      again = text_again form;
+    })

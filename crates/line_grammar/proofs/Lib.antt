@@ -6,3 +6,5 @@ pub mod Keywords
 pub mod Steps
 pub mod Utf8
 pub mod Quoted
+pub mod Either
+pub mod GrammarLaws

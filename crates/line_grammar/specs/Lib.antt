@@ -5,3 +5,6 @@ pub mod Automata
 pub mod Numbers
 pub mod Choices
 pub mod Texts
+pub mod Dashes
+pub mod Lists
+pub mod Grammar

@@ -78,7 +78,10 @@ module _ {V W U : Type 0} (f : V → U) (L : V → List ℕ → Type 0) (first :
   stops_first b bytes left ne e =
       let s = l.stops (b ∷ bytes) left e in
       record {
-        front = s.front; back = s.back; parts = s.parts; left_is = s.left_is;
+        front = s.front;
+        back = s.back;
+        parts = s.parts;
+        left_is = s.left_is;
         begins = (f s.begins.0, s.begins.1, inl (s.begins.0, s.begins.2, refl));
         longest = λ c more back_is begun. elim begun.2 [
           | inl h ↦ s.longest c more back_is (h.0, begun.1, h.1)
@@ -90,7 +93,10 @@ module _ {V W U : Type 0} (f : V → U) (L : V → List ℕ → Type 0) (first :
   stops_empty left e =
       let s = l.stops [] left e in
       record {
-        front = s.front; back = s.back; parts = s.parts; left_is = s.left_is;
+        front = s.front;
+        back = s.back;
+        parts = s.parts;
+        left_is = s.left_is;
         begins = (f s.begins.0, s.begins.1, inl (s.begins.0, s.begins.2, refl));
         longest = λ c more back_is begun. absurd (omega (arith, ap length s.parts, length-append s.front s.back, ap length back_is));
       }
@@ -99,7 +105,9 @@ module _ {V W U : Type 0} (f : V → U) (L : V → List ℕ → Type 0) (first :
   stops_second b bytes left is e =
       let s = m.stops bytes left e in
       record {
-        front = 45 ∷ s.front; back = s.back; left_is = s.left_is;
+        front = 45 ∷ s.front;
+        back = s.back;
+        left_is = s.left_is;
         parts = ap (λ (k : ℕ). k ∷ bytes) is ∙ ap (λ (x : List ℕ). 45 ∷ x) s.parts;
         begins = (g s.begins.0, s.begins.1, inr (s.begins.0, s.front ++ s.begins.1, s.begins.2, refl, refl));
         longest = λ c more back_is begun. elim begun.2 [
@@ -141,8 +149,8 @@ decimal_head (suc fuel) n le small =
     elim (cases_lt n 10) [
       | inl lt ↦ (48 + n, [], decimal_digit n lt, omega arith)
       | inr ge ↦
-        let r = decimal_head fuel (n / 10) (omega arith) (omega arith) in
-        (r.0, r.1 ++ (48 + n % 10) ∷ [], decimal_step n ge small ∙ ap (λ (t : List ℕ). t ++ (48 + n % 10) ∷ []) r.2, r.3)
+          let r = decimal_head fuel (n / 10) (omega arith) (omega arith) in
+          (r.0, r.1 ++ (48 + n % 10) ∷ [], decimal_step n ge small ∙ ap (λ (t : List ℕ). t ++ (48 + n % 10) ∷ []) r.2, r.3)
     ]
 
 number_avoids : (form : NumberForm) → form.greatest < 2 ^ 64 → (n : ℕ) (t : List ℕ) → IsNumber form n (45 ∷ t) → ⊥

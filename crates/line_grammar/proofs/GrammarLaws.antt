@@ -22,16 +22,16 @@ unfolding texts_at
 texts_reads form ok zero = only_reads []
 texts_reads form ok (suc n) =
     then_reads (IsText (text_before n form)) (λ first. Then (IsTexts form n) (λ others. IsOnly (first ∷ others))) (text_at (text_before n form)) (λ first bytes. texts_at form n bytes >>= λ others. Ok (first ∷ others.0, others.1))
-      (text_reads (text_before n form) ok)
-      (λ first. then_reads (IsTexts form n) (λ others. IsOnly (first ∷ others)) (texts_at form n) (λ others bytes. Ok (first ∷ others, bytes)) (texts_reads form ok n) (λ others. only_reads (first ∷ others)))
+    (text_reads (text_before n form) ok)
+    (λ first. then_reads (IsTexts form n) (λ others. IsOnly (first ∷ others)) (texts_at form n) (λ others bytes. Ok (first ∷ others, bytes)) (texts_reads form ok n) (λ others. only_reads (first ∷ others)))
 
 pub numbers_reads : (form : NumberForm) → is_number_form form ≡ true → (n : ℕ) → Reads (IsNumbers form n) (numbers_at form n)
 unfolding numbers_at
 numbers_reads form ok zero = only_reads []
 numbers_reads form ok (suc n) =
     then_reads (IsNumber (number_before n form)) (λ first. Then (IsNumbers form n) (λ others. IsOnly (first ∷ others))) (number_at (number_before n form)) (λ first bytes. numbers_at form n bytes >>= λ others. Ok (first ∷ others.0, others.1))
-      (number_reads (number_before n form) ok)
-      (λ first. then_reads (IsNumbers form n) (λ others. IsOnly (first ∷ others)) (numbers_at form n) (λ others bytes. Ok (first ∷ others, bytes)) (numbers_reads form ok n) (λ others. only_reads (first ∷ others)))
+    (number_reads (number_before n form) ok)
+    (λ first. then_reads (IsNumbers form n) (λ others. IsOnly (first ∷ others)) (numbers_at form n) (λ others bytes. Ok (first ∷ others, bytes)) (numbers_reads form ok n) (λ others. only_reads (first ∷ others)))
 
 pub text_list_reads : (most : ℕ) (form : TextForm) → is_number_form (count_form most form.behind) ≡ true → is_text_form form ≡ true → Reads (IsTextList most form) (text_list_at most form)
 unfolding text_list_at

@@ -7,4 +7,5 @@ pub mod Steps
 pub mod Utf8
 pub mod Quoted
 pub mod Either
+pub mod Words
 pub mod GrammarLaws

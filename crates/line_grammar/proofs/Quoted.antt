@@ -137,7 +137,9 @@ lead_moves form front raw b (Some s) is h =
     let lead = lead_of b s is in
     cond_both (leb (length front + 2 + s.more) form.greatest) (Add b (Inside s)) Wrong (After form front raw b) (λ t. record {
       whole = λ bs m. subst (λ (x : List ℕ). IsUtf8 x) (sym (append_assoc front (b ∷ []) bs)) (IsUtf8-append front (b ∷ bs) h.utf8 (lead.whole bs m));
-      low = lead.low; between = lead.between; high = lead.high;
+      low = lead.low;
+      between = lead.between;
+      high = lead.high;
       fits = omega (arith, length_push front b, leb-true (length front + 2 + s.more) form.greatest t);
       said = said_push front raw [] b b (nothing_more front raw h.said) (escape_high b lead.first);
     }) (λ t. tt)
@@ -145,22 +147,25 @@ lead_moves form front raw b (Some s) is h =
 open_moves : (form : TextForm) (front raw : List ℕ) (b : ℕ) → IsOpen form front raw → After form front raw b (text_move form Open (length front) b)
 open_moves form front raw b h =
     cond_both (eqb b 34) (cond (leb form.least (length front)) (Stay Closed) Wrong) _ (After form front raw b)
-      (λ q. cond_both (leb form.least (length front)) (Stay Closed) Wrong (After form front raw b) (λ t. record {
-        utf8 = h.utf8; least = leb-true form.least (length front) t; fits = h.fits;
-        said = ap (λ (x : List ℕ). x ++ b ∷ []) h.said ∙ ap (λ (k : ℕ). 34 ∷ (spelled front ++ k ∷ [])) (eqb-true b 34 q);
-      }) (λ t. tt))
-      (λ no_quote. cond_both (eqb b 92) (cond (ltb (length front) form.greatest) (Stay Slash) Wrong) _ (After form front raw b)
-        (λ q. cond_both (ltb (length front) form.greatest) (Stay Slash) Wrong (After form front raw b) (λ t. record {
-          utf8 = h.utf8; fits = ltb-true (length front) form.greatest t;
-          said = ap (λ (x : List ℕ). x ++ b ∷ []) h.said ∙ ap (λ (k : ℕ). 34 ∷ (spelled front ++ k ∷ [])) (eqb-true b 92 q);
-        }) (λ t. tt))
-        (λ no_slash. cond_both (ltb b 32) Wrong _ (After form front raw b) (λ q. tt)
-          (λ printed. cond_both (ltb b 128) (cond (ltb (length front) form.greatest) (Add b Open) Wrong) (lead_move form (length front) b (tail_of b)) (After form front raw b)
-            (λ q. cond_both (ltb (length front) form.greatest) (Add b Open) Wrong (After form front raw b)
-              (λ t. add_open form front raw [] b b (utf8_push front b h.utf8 (ltb-true b 128 q)) (ltb-true (length front) form.greatest t) (nothing_more front raw h.said)
-                (escape_plain b (ltb-false b 32 printed) (eqb-false b 34 no_quote) (eqb-false b 92 no_slash)))
-              (λ t. tt))
-            (λ q. lead_moves form front raw b (tail_of b) refl h))))
+    (λ q. cond_both (leb form.least (length front)) (Stay Closed) Wrong (After form front raw b) (λ t. record {
+      utf8 = h.utf8;
+      least = leb-true form.least (length front) t;
+      fits = h.fits;
+      said = ap (λ (x : List ℕ). x ++ b ∷ []) h.said ∙ ap (λ (k : ℕ). 34 ∷ (spelled front ++ k ∷ [])) (eqb-true b 34 q);
+    }) (λ t. tt))
+    (λ no_quote. cond_both (eqb b 92) (cond (ltb (length front) form.greatest) (Stay Slash) Wrong) _ (After form front raw b)
+    (λ q. cond_both (ltb (length front) form.greatest) (Stay Slash) Wrong (After form front raw b) (λ t. record {
+      utf8 = h.utf8;
+      fits = ltb-true (length front) form.greatest t;
+      said = ap (λ (x : List ℕ). x ++ b ∷ []) h.said ∙ ap (λ (k : ℕ). 34 ∷ (spelled front ++ k ∷ [])) (eqb-true b 92 q);
+    }) (λ t. tt))
+    (λ no_slash. cond_both (ltb b 32) Wrong _ (After form front raw b) (λ q. tt)
+    (λ printed. cond_both (ltb b 128) (cond (ltb (length front) form.greatest) (Add b Open) Wrong) (lead_move form (length front) b (tail_of b)) (After form front raw b)
+    (λ q. cond_both (ltb (length front) form.greatest) (Add b Open) Wrong (After form front raw b)
+    (λ t. add_open form front raw [] b b (utf8_push front b h.utf8 (ltb-true b 128 q)) (ltb-true (length front) form.greatest t) (nothing_more front raw h.said)
+    (escape_plain b (ltb-false b 32 printed) (eqb-false b 34 no_quote) (eqb-false b 92 no_slash)))
+    (λ t. tt))
+    (λ q. lead_moves form front raw b (tail_of b) refl h))))
 
 -- behind one byte of a character's rest
 inside_next : (form : TextForm) (front raw : List ℕ) (b low high : ℕ) (more : ℕ) → IsInside form (tail low high more) front raw → low ≤ b → b ≤ high → StandsAt form (stage_behind more) (front ++ b ∷ []) (raw ++ b ∷ [])
@@ -171,7 +176,9 @@ inside_next form front raw b low high zero h p q = record {
 }
 inside_next form front raw b low high (suc n) h p q = record {
   whole = on;
-  low = omega arith; between = omega arith; high = omega arith;
+  low = omega arith;
+  between = omega arith;
+  high = omega arith;
   fits = omega (arith, length_push front b, h.fits);
   said = said_push front raw [] b b (nothing_more front raw h.said) (escape_high b (omega (arith, h.low)));
 } where
@@ -185,8 +192,8 @@ at_add form front raw b stage h = h
 inside_moves : (form : TextForm) (s : Tail) (front raw : List ℕ) (b : ℕ) → IsInside form s front raw → After form front raw b (text_move form (Inside s) (length front) b)
 inside_moves form s front raw b h =
     cond_both (ltb b s.low || ltb s.high b) Wrong (Add b (stage_behind s.more)) (After form front raw b) (λ t. tt) (λ t.
-      let p = or_parts (ltb b s.low) (ltb s.high b) t in
-      at_add form front raw b (stage_behind s.more) (inside_next form front raw b s.low s.high s.more h (ltb-false b s.low p.0) (ltb-false s.high b p.1)))
+    let p = or_parts (ltb b s.low) (ltb s.high b) t in
+    at_add form front raw b (stage_behind s.more) (inside_next form front raw b s.low s.high s.more h (ltb-false b s.low p.0) (ltb-false s.high b p.1)))
 
 quote_said : (b : ℕ) → (b ≡ 34) ⊎ (b ≡ 92) → (escape b ≡ (92 ∷ []) ++ b ∷ []) × (b < 128)
 quote_said b (inl is) = (ap escape is ∙ ap (λ (k : ℕ). 92 ∷ k ∷ []) (sym is), omega arith)
@@ -199,16 +206,17 @@ digit_is b false e d = elim (or_cases (eqb b 48) false d) [ inl k ↦ eqb-true b
 slash_moves : (form : TextForm) (front raw : List ℕ) (b : ℕ) → IsEscape form front raw (92 ∷ []) → After form front raw b (text_move form Slash (length front) b)
 slash_moves form front raw b h =
     cond_both (eqb b 34 || eqb b 92) (Add b Open) _ (After form front raw b)
-      (λ t.
-        let is : (b ≡ 34) ⊎ (b ≡ 92) = elim (or_cases (eqb b 34) (eqb b 92) t) [ inl k ↦ inl (eqb-true b 34 k) | inr k ↦ inr (eqb-true b 92 k) ] in
-        let q = quote_said b is in
-        add_open form front raw (92 ∷ []) b b (utf8_push front b h.utf8 q.1) h.fits h.said q.0)
-      (λ t. cond_both (eqb b 48 || eqb b 49) (Stay (Hex (eqb b 49))) Wrong (After form front raw b)
-        (λ d. record {
-          utf8 = h.utf8; fits = h.fits;
-          said = ap (λ (x : List ℕ). x ++ b ∷ []) h.said ∙ ap (λ (x : List ℕ). 34 ∷ x) (append_assoc (spelled front) (92 ∷ []) (b ∷ [])) ∙ ap (λ (k : ℕ). 34 ∷ (spelled front ++ 92 ∷ k ∷ [])) (digit_is b (eqb b 49) refl d);
-        })
-        (λ d. tt))
+    (λ t.
+    let is : (b ≡ 34) ⊎ (b ≡ 92) = elim (or_cases (eqb b 34) (eqb b 92) t) [ inl k ↦ inl (eqb-true b 34 k) | inr k ↦ inr (eqb-true b 92 k) ] in
+    let q = quote_said b is in
+    add_open form front raw (92 ∷ []) b b (utf8_push front b h.utf8 q.1) h.fits h.said q.0)
+    (λ t. cond_both (eqb b 48 || eqb b 49) (Stay (Hex (eqb b 49))) Wrong (After form front raw b)
+    (λ d. record {
+      utf8 = h.utf8;
+      fits = h.fits;
+      said = ap (λ (x : List ℕ). x ++ b ∷ []) h.said ∙ ap (λ (x : List ℕ). 34 ∷ x) (append_assoc (spelled front) (92 ∷ []) (b ∷ [])) ∙ ap (λ (k : ℕ). 34 ∷ (spelled front ++ 92 ∷ k ∷ [])) (digit_is b (eqb b 49) refl d);
+    })
+    (λ d. tt))
 
 hex_small : (one : Bool) (d : ℕ) → d < 16 → cond one 16 0 + d < 128
 hex_small true d p = omega arith
@@ -223,20 +231,20 @@ hex_moves form one front raw b h =
     cond_both (ltb b 48) Wrong _ (After form front raw b) (λ t. tt) (λ t48.
     let low : 48 ≤ b = ltb-false b 48 t48 in
     cond_both (ltb b 58) (Add (cond one 16 0 + (b - 48)) Open) _ (After form front raw b)
-      (λ t. let lt = ltb-true b 58 t in let small : b - 48 < 10 = omega arith in let back : 48 + (b - 48) ≡ b = omega arith in
-        hex_added form one front raw (b - 48) b h (omega arith) (hex_figure (b - 48) small ∙ back))
-      (λ t58. cond_both (ltb b 97) Wrong _ (After form front raw b) (λ t. tt) (λ t97.
-      let ge : 97 ≤ b = ltb-false b 97 t97 in
-      cond_both (ltb b 103) (Add (cond one 16 0 + (b - 87)) Open) Wrong (After form front raw b)
-        (λ t. let lt = ltb-true b 103 t in let large : 10 ≤ b - 87 = omega arith in let back : 87 + (b - 87) ≡ b = omega arith in
-          hex_added form one front raw (b - 87) b h (omega arith) (hex_letter (b - 87) large ∙ back))
-        (λ t. tt))))
+    (λ t. let lt = ltb-true b 58 t in let small : b - 48 < 10 = omega arith in let back : 48 + (b - 48) ≡ b = omega arith in
+    hex_added form one front raw (b - 48) b h (omega arith) (hex_figure (b - 48) small ∙ back))
+    (λ t58. cond_both (ltb b 97) Wrong _ (After form front raw b) (λ t. tt) (λ t97.
+    let ge : 97 ≤ b = ltb-false b 97 t97 in
+    cond_both (ltb b 103) (Add (cond one 16 0 + (b - 87)) Open) Wrong (After form front raw b)
+    (λ t. let lt = ltb-true b 103 t in let large : 10 ≤ b - 87 = omega arith in let back : 87 + (b - 87) ≡ b = omega arith in
+    hex_added form one front raw (b - 87) b h (omega arith) (hex_letter (b - 87) large ∙ back))
+    (λ t. tt))))
 
 closed_moves : (form : TextForm) (front raw : List ℕ) (b : ℕ) → IsClosed form front raw → After form front raw b (text_move form Closed (length front) b)
 closed_moves form front raw b h =
     cond_both (eqb b (end_byte form.behind)) Whole Wrong (After form front raw b)
-      (λ t. (h.utf8, h.least, h.fits, ap (λ (x : List ℕ). x ++ b ∷ []) h.said ∙ ap (λ (x : List ℕ). 34 ∷ x) (append_assoc (spelled front) (34 ∷ []) (b ∷ [])) ∙ ap (λ (k : ℕ). 34 ∷ (spelled front ++ 34 ∷ k ∷ [])) (eqb-true b (end_byte form.behind) t)))
-      (λ t. tt)
+    (λ t. (h.utf8, h.least, h.fits, ap (λ (x : List ℕ). x ++ b ∷ []) h.said ∙ ap (λ (x : List ℕ). 34 ∷ x) (append_assoc (spelled front) (34 ∷ []) (b ∷ [])) ∙ ap (λ (k : ℕ). 34 ∷ (spelled front ++ 34 ∷ k ∷ [])) (eqb-true b (end_byte form.behind) t)))
+    (λ t. tt)
 
 moves : (form : TextForm) (stage : TextStage) (front raw : List ℕ) (b : ℕ) → StandsAt form stage front raw → After form front raw b (text_move form stage (length front) b)
 moves form Opening front raw b h = opening_moves form front raw b h
@@ -323,10 +331,16 @@ inside_begins form bounds s front raw h =
     let bs : List ℕ = s.low ∷ nexts s.more in
     let fits : IsTail s bs = (omega arith, h.between, nexts_fit s.more) in
     let long : length (front ++ bs) ≡ length front + suc (length (nexts s.more)) = length-append front bs in
-    let text_is : spelled (front ++ bs) ≡ spelled front ++ bs = flat_map-append escape front bs ∙ ap (λ (t : List ℕ). spelled front ++ t) (spelled_tail s bs h.low fits) in
-    (front ++ bs, bs ++ closing form,
-      (h.whole bs fits, omega (arith, long, bounds.low, length-nexts s.more), omega (arith, long, h.fits, length-nexts s.more),
-        ap (λ (t : List ℕ). t ++ (bs ++ closing form)) h.said ∙ ap (λ (t : List ℕ). 34 ∷ t) (sym (append_assoc (spelled front) bs (closing form)) ∙ ap (λ (t : List ℕ). t ++ closing form) (sym text_is))))
+    let text_is : spelled (front ++ bs) ≡ spelled front ++ bs = flat_map-append escape front bs ∙ ap (λ (t : List ℕ). spelled front ++ t) (spelled_tail s bs h.low fits) in (
+      front ++ bs,
+      bs ++ closing form,
+      (
+        h.whole bs fits,
+        omega (arith, long, bounds.low, length-nexts s.more),
+        omega (arith, long, h.fits, length-nexts s.more),
+        ap (λ (t : List ℕ). t ++ (bs ++ closing form)) h.said ∙ ap (λ (t : List ℕ). 34 ∷ t) (sym (append_assoc (spelled front) bs (closing form)) ∙ ap (λ (t : List ℕ). t ++ closing form) (sym text_is)),
+      ),
+    )
 
 open_begins : (form : TextForm) → Bounds form → (front raw : List ℕ) → IsOpen form front raw → Begins (IsText form) raw
 open_begins form bounds front raw h =
@@ -362,6 +376,7 @@ hex_step form one front d b y p q =
     ] where
       figure : (k : ℕ) → b ≡ k → 48 ≤ k → k < 58 → k - 48 ≡ d → run (text_step form) (Hex one, front) (b ∷ y) ≡ run (text_step form) (Open, front ++ (cond one 16 0 + d) ∷ []) y
       figure k is low high back = rw (is, le-ltb k 48 low, lt-ltb k 58 high, back) refl
+
       letter : (k : ℕ) → b ≡ k → 97 ≤ k → k < 103 → k - 87 ≡ d → run (text_step form) (Hex one, front) (b ∷ y) ≡ run (text_step form) (Open, front ++ (cond one 16 0 + d) ∷ []) y
       letter k is low high back =
           let from48 : 48 ≤ k = omega arith in
@@ -427,9 +442,9 @@ char_through : (form : TextForm) (front : List ℕ) (c : ℕ) (y : List ℕ) →
 char_through form front c y s fits =
     elim (cases_lt c 128) [
       | inl lt ↦
-        let one = encode_ascii c lt in
-        ap (λ (t : List ℕ). run (text_step form) (Open, front) (spelled t ++ y)) one ∙ ap (λ (t : List ℕ). run (text_step form) (Open, front) (t ++ y)) (append-nil (escape c))
-        ∙ ascii_through form front c y (omega (arith, ap length one)) lt ∙ ap (λ (t : List ℕ). run (text_step form) (Open, front ++ t) y) (sym one)
+          let one = encode_ascii c lt in
+          ap (λ (t : List ℕ). run (text_step form) (Open, front) (spelled t ++ y)) one ∙ ap (λ (t : List ℕ). run (text_step form) (Open, front) (t ++ y)) (append-nil (escape c))
+          ∙ ascii_through form front c y (omega (arith, ap length one)) lt ∙ ap (λ (t : List ℕ). run (text_step form) (Open, front ++ t) y) (sym one)
       | inr ge ↦ wide_through form front c y (wide c s ge) fits
     ]
 

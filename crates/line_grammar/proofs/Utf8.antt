@@ -210,20 +210,35 @@ at_byte b k s is e = ap tail_of is ∙ e
 
 wide_2 : (c : ℕ) → 128 ≤ c → c < 2048 → IsWide c
 wide_2 c p q = record {
-  first = 192 + c / 64; others = (128 + c % 64) ∷ []; tail = tail 128 191 0;
-  bytes = encode_2 c p q; lead = tail_2 (192 + c / 64) (omega arith) (omega arith); fits = (omega arith, omega arith, tt); length_is = refl;
+  first = 192 + c / 64;
+  others = (128 + c % 64) ∷ [];
+  tail = tail 128 191 0;
+  bytes = encode_2 c p q;
+  lead = tail_2 (192 + c / 64) (omega arith) (omega arith);
+  fits = (omega arith, omega arith, tt);
+  length_is = refl;
 }
 
 wide_3 : (c low high : ℕ) → 2048 ≤ c → c < 65536 → tail_of (224 + c / 4096) ≡ Some (tail low high 1) → low ≤ 128 + c / 64 % 64 → 128 + c / 64 % 64 ≤ high → IsWide c
 wide_3 c low high p q e l h = record {
-  first = 224 + c / 4096; others = (128 + c / 64 % 64) ∷ (128 + c % 64) ∷ []; tail = tail low high 1;
-  bytes = encode_3 c p q; lead = e; fits = (l, h, (omega arith, omega arith, tt)); length_is = refl;
+  first = 224 + c / 4096;
+  others = (128 + c / 64 % 64) ∷ (128 + c % 64) ∷ [];
+  tail = tail low high 1;
+  bytes = encode_3 c p q;
+  lead = e;
+  fits = (l, h, (omega arith, omega arith, tt));
+  length_is = refl;
 }
 
 wide_4 : (c low high : ℕ) → 65536 ≤ c → tail_of (240 + c / 262144) ≡ Some (tail low high 2) → low ≤ 128 + c / 4096 % 64 → 128 + c / 4096 % 64 ≤ high → IsWide c
 wide_4 c low high p e l h = record {
-  first = 240 + c / 262144; others = (128 + c / 4096 % 64) ∷ (128 + c / 64 % 64) ∷ (128 + c % 64) ∷ []; tail = tail low high 2;
-  bytes = encode_4 c p; lead = e; fits = (l, h, (omega arith, omega arith, (omega arith, omega arith, tt))); length_is = refl;
+  first = 240 + c / 262144;
+  others = (128 + c / 4096 % 64) ∷ (128 + c / 64 % 64) ∷ (128 + c % 64) ∷ [];
+  tail = tail low high 2;
+  bytes = encode_4 c p;
+  lead = e;
+  fits = (l, h, (omega arith, omega arith, (omega arith, omega arith, tt)));
+  length_is = refl;
 }
 
 wide_three : (c : ℕ) → ((c < 55296) ⊎ ((57344 ≤ c) × (c < 1114112))) → 2048 ≤ c → c < 65536 → IsWide c

@@ -1,7 +1,7 @@
 -- Languages that are read, one after the other.
 use Rattle.std.proofs.Common.{◌≡◌, ℕ, suc, ◌+◌, List, [], ◌∷◌, ◌++◌, length, Result, Ok, Err, refl, sym, ap, subst, ◌∙◌, append_assoc}
 use Rattle.std.proofs.lemmas.List.{append-nil}
-use Rattle.line_grammar.proofs.Lists.{longer}
+use Rattle.line_grammar.proofs.Fronts.{longer}
 use Rattle.line_grammar.specs.Reading.{◌>>=◌}
 use Rattle.line_grammar.specs.Languages.{Begins, Stops, IsOnly, Then, Reads}
 

@@ -14,7 +14,7 @@ use Rattle.line_grammar.specs.Choices.{IsWord, words_at}
 use Rattle.line_grammar.specs.Numbers.{end_of, IsNumber, is_number_form, number_at}
 use Rattle.line_grammar.specs.Texts.{spelled, IsText, is_text_form, text_at}
 use Rattle.line_grammar.specs.Dashes.{Either, seen, either_at, no_text, some_text, end_words, IsOptional, optional_at, plus_form, minus_form, plus, minus, IsCode, code_at}
-use Rattle.line_grammar.proofs.Lists.{cons_parts}
+use Rattle.line_grammar.proofs.Fronts.{cons_parts}
 use Rattle.line_grammar.proofs.Algebra.{good, bad, ok_is, err_is, ok≢err, bind_ok}
 use Rattle.line_grammar.proofs.Decimals.{number_reads}
 use Rattle.line_grammar.proofs.Quoted.{text_reads}

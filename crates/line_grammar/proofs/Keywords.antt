@@ -5,7 +5,7 @@ use Rattle.std.proofs.lemmas.List.{append-nil}
 use Rattle.line_grammar.specs.Languages.{Begins, Stops, Reads}
 use Rattle.line_grammar.specs.Choices.{IsWord, word_at, words_from, word_or, words_at, apart, all_apart, are_apart}
 use Rattle.line_grammar.proofs.Algebra.{good, bad, ok_is, err_is, ok≢err}
-use Rattle.line_grammar.proofs.Lists.{cons_parts}
+use Rattle.line_grammar.proofs.Fronts.{cons_parts}
 
 -- ---- one word
 

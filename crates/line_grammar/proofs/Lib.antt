@@ -1,4 +1,4 @@
-pub mod Lists
+pub mod Fronts
 pub mod Algebra
 pub mod Machines
 pub mod Decimals
@@ -8,4 +8,5 @@ pub mod Utf8
 pub mod Quoted
 pub mod Either
 pub mod Words
+pub mod Loop
 pub mod GrammarLaws

@@ -5,6 +5,7 @@
 mod choices;
 mod ends;
 mod faults;
+mod lists;
 mod numbers;
 mod reading;
 mod texts;

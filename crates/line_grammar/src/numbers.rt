@@ -1,6 +1,7 @@
 //! Numbers in decimal digits without sign or leading zeros, within bounds.
 ghost use Rattle.std.specs.Prelude.{◌≡◌, ◌+◌, ◌*◌, ◌<◌, Some, None, nat_le, if◌then◌else◌};
 ghost use Rattle.line_grammar.specs.Numbers.{number_move};
+ghost use Rattle.line_grammar.specs.Lists.{number_before};
 
 use crate::ends::End;
 
@@ -55,6 +56,21 @@ fn grown(n: u64, digit: u64, greatest: u64) -> Option<u64>
 }
 
 impl NumberForm {
+    /// The form of a number of a list with so many numbers after it.
+    pub(crate) fn before(self, others: u64) -> NumberForm
+        ensures { result ≡ number_before others self }
+    {
+        let end = match others {
+            0 => self.behind,
+            _ => End::Space,
+        };
+        NumberForm {
+            behind_zero: end,
+            behind: end,
+            ..self
+        }
+    }
+
     /// What a byte does at this stage.
     pub(crate) fn step(self, stage: NumberStage, byte: u8) -> NumberMove
         ensures { result ≡ number_move self stage byte }

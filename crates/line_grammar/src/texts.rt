@@ -1,6 +1,7 @@
 //! Texts between quotes, read byte by byte.
 ghost use Rattle.std.specs.Prelude.{◌≡◌};
 ghost use Rattle.line_grammar.specs.Texts.{tail_of, lead_move, open_move, slash_move, hex_move, stage_behind, text_move};
+ghost use Rattle.line_grammar.specs.Lists.{text_before};
 
 use crate::ends::End;
 
@@ -157,6 +158,19 @@ fn hex(one: bool, byte: u8) -> TextMove
 }
 
 impl TextForm {
+    /// The form of a text of a list with so many texts after it.
+    pub(crate) fn before(self, others: u64) -> TextForm
+        ensures { result ≡ text_before others self }
+    {
+        match others {
+            0 => self,
+            _ => TextForm {
+                behind: End::Space,
+                ..self
+            },
+        }
+    }
+
     fn lead(self, len: usize, byte: u8) -> TextMove
         ensures { result ≡ lead_move self len byte (tail_of byte) }
     {

@@ -1,0 +1,95 @@
+//! Lists with their count in front.
+ghost use Rattle.std.specs.Prelude.{◌≡◌, true};
+ghost use Rattle.line_grammar.specs.Reading.{Takes};
+ghost use Rattle.line_grammar.specs.Numbers.{is_number_form};
+ghost use Rattle.line_grammar.specs.Texts.{is_text_form};
+ghost use Rattle.line_grammar.specs.Lists.{count_form, texts_at, numbers_at, text_list_at, number_list_at};
+
+use crate::ends::End;
+use crate::faults::ReadError;
+use crate::numbers::NumberForm;
+use crate::reading::Reader;
+use crate::texts::TextForm;
+use job_values::Text;
+use std::alloc::Global;
+
+/// The form of a list's count.
+fn counting(most: u32, end: End) -> NumberForm
+    ensures { result ≡ count_form most end }
+{
+    NumberForm {
+        least: 0,
+        greatest: u64::from(most),
+        behind_zero: end,
+        behind: End::Space,
+    }
+}
+
+impl Reader<'_> {
+    fn texts(&mut self, alloc: Global, count: u64, form: TextForm) -> Result<Vec<Text>, ReadError>
+        requires { is_text_form form ≡ true }
+        ensures { Takes (λ v. v.items) result self.new.rest.now (texts_at form count self.old.rest.now) }
+    {
+        let mut texts = Vec::new(alloc);
+        let mut others = count;
+        while others > 0 {
+            others -= 1;
+            let text = self.text(alloc, form.before(others))?;
+            texts.push(text)?;
+        }
+        Ok(texts)
+    }
+
+    fn numbers(
+        &mut self,
+        alloc: Global,
+        count: u64,
+        form: NumberForm,
+    ) -> Result<Vec<u64>, ReadError>
+        requires { is_number_form form ≡ true }
+        ensures { Takes (λ v. v.items) result self.new.rest.now (numbers_at form count self.old.rest.now) }
+    {
+        let mut numbers = Vec::new(alloc);
+        let mut others = count;
+        while others > 0 {
+            others -= 1;
+            let number = self.number(form.before(others))?;
+            numbers.push(number)?;
+        }
+        Ok(numbers)
+    }
+
+    /// A count and that many texts. `form.behind` ends the list, and a list of no text its count.
+    #[tactic(auto, unfolding(crate::specs::Lists::text_list_at))]
+    pub fn text_list(
+        &mut self,
+        alloc: Global,
+        most: u32,
+        form: TextForm,
+    ) -> Result<Vec<Text>, ReadError>
+        requires counts { is_number_form (count_form most form.behind) ≡ true }
+        requires texts { is_text_form form ≡ true }
+        ensures { Takes (λ v. v.items) result self.new.rest.now (text_list_at most form self.old.rest.now) }
+    {
+        let count = self.number(counting(most, form.behind))?;
+        let texts = self.texts(alloc, count, form)?;
+        Ok(texts)
+    }
+
+    /// A count and that many numbers. `form.behind` ends the list, and a list of no number its count.
+    #[tactic(auto, unfolding(crate::specs::Lists::number_list_at))]
+    pub fn number_list(
+        &mut self,
+        alloc: Global,
+        most: u32,
+        form: NumberForm,
+    ) -> Result<Vec<u64>, ReadError>
+        requires counts { is_number_form (count_form most form.behind) ≡ true }
+        requires numbers { is_number_form form ≡ true }
+        ensures { Takes (λ v. v.items) result self.new.rest.now (number_list_at most form self.old.rest.now) }
+    {
+        let count = self.number(counting(most, form.behind))?;
+        let numbers = self.numbers(alloc, count, form)?;
+        Ok(numbers)
+    }
+}

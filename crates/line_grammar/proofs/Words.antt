@@ -1,5 +1,5 @@
 -- What callers of the word readers want to know.
-use Rattle.std.proofs.Common.{◌≡◌, ℕ, ◌≤◌, Bool, true, List, Result, Ok, Err}
+use Rattle.std.proofs.Common.{◌≡◌, ℕ, ◌≤◌, Bool, true, List, length, Result, Ok, Err}
 use Rattle.std.specs.Str.{IsUtf8}
 use Rattle.line_grammar.specs.declared.numbers.NumberForm.{NumberForm}
 use Rattle.line_grammar.specs.declared.texts.TextForm.{TextForm}
@@ -15,3 +15,7 @@ number_within form bytes n rest ok e = let f = (number_reads form ok).found byte
 -- a text that was read is UTF-8
 pub text_utf8 : (form : TextForm) (bytes text rest : List ℕ) → is_text_form form ≡ true → text_at form bytes ≡ Ok (text, rest) → IsUtf8 text
 text_utf8 form bytes text rest ok e = ((text_reads form ok).found bytes text rest e).1.0
+
+-- a text that was read is within its bounds
+pub text_within : (form : TextForm) (bytes text rest : List ℕ) → is_text_form form ≡ true → text_at form bytes ≡ Ok (text, rest) → (form.least ≤ length text) × (length text ≤ form.greatest)
+text_within form bytes text rest ok e = let f = (text_reads form ok).found bytes text rest e in (f.1.1, f.1.2)

@@ -2,6 +2,7 @@
 use Rattle.std.specs.Prelude.{◌≡◌, ℕ, zero, suc, ◌+◌, ◌-◌, ◌*◌, ◌/◌, ◌%◌, ◌≤◌, ◌<◌, Bool, true, ◌&&◌, ◌||◌, nat_lt, nat_le, ◌==◌, if◌then◌else◌, List, [], ◌∷◌, ◌++◌, length, Option, Some, None, Result}
 use Rattle.std.specs.List.{flat_map}
 use Rattle.std.specs.Str.{IsUtf8}
+use Rattle.line_grammar.specs.declared.ends.End.{End}
 use Rattle.line_grammar.specs.declared.texts.TextForm.{TextForm}
 use Rattle.line_grammar.specs.declared.texts.Tail.{Tail}
 use Rattle.line_grammar.specs.declared.texts.TextStage.{TextStage}
@@ -40,6 +41,10 @@ IsText form text bytes = IsUtf8 text × (form.least ≤ length text) × (length 
 -- the bounds are such that each text's front begins a text
 abbrev pub is_text_form : TextForm → Bool
 is_text_form form = nat_le form.least 1 && nat_le 1 form.greatest
+
+-- texts of least to greatest bytes with this end
+abbrev pub text_form : ℕ → ℕ → End → TextForm
+text_form least greatest end = record { least = least; greatest = greatest; behind = end }
 
 -- ---- how a text is read
 

@@ -2,15 +2,14 @@
 ghost use Rattle.std.specs.Prelude.{◌≡◌, true};
 ghost use Rattle.line_grammar.specs.Reading.{Takes};
 ghost use Rattle.line_grammar.specs.Numbers.{is_number_form};
-ghost use Rattle.line_grammar.specs.Texts.{is_text_form};
-ghost use Rattle.line_grammar.specs.Lists.{count_form, texts_at, numbers_at, text_list_at, number_list_at};
+ghost use Rattle.line_grammar.specs.Texts.{text_form, is_text_form};
+ghost use Rattle.line_grammar.specs.Lists.{end_before, count_form, texts_at, numbers_at, text_list_at, number_list_at};
 
 use crate::ends::End;
 use crate::faults::ReadError;
 use crate::numbers::NumberForm;
 use crate::reading::Reader;
-use crate::texts::TextForm;
-use job_values::Text;
+use job_values::BoundedText;
 use std::alloc::Global;
 
 /// The form of a list's count.
@@ -25,16 +24,31 @@ fn counting(most: u32, end: End) -> NumberForm
     }
 }
 
+/// What stands behind a word of a list with so many words after it.
+fn before(others: u64, end: End) -> End
+    ensures { result ≡ end_before others end }
+{
+    match others {
+        0 => end,
+        _ => End::Space,
+    }
+}
+
 impl Reader<'_> {
-    fn texts(&mut self, alloc: Global, count: u64, form: TextForm) -> Result<Vec<Text>, ReadError>
-        requires { is_text_form form ≡ true }
-        ensures { Takes (λ v. v.items) result self.new.rest.now (texts_at form count self.old.rest.now) }
+    fn texts<const LEAST: usize, const MOST: usize>(
+        &mut self,
+        alloc: Global,
+        count: u64,
+        end: End,
+    ) -> Result<Vec<BoundedText<LEAST, MOST>>, ReadError>
+        requires { is_text_form (text_form LEAST MOST end) ≡ true }
+        ensures { Takes (λ v. v.items) result self.new.rest.now (texts_at (text_form LEAST MOST end) count self.old.rest.now) }
     {
         let mut texts = Vec::new(alloc);
         let mut others = count;
         while others > 0 {
             others -= 1;
-            let text = self.text(alloc, form.before(others))?;
+            let text = self.bounded(alloc, before(others, end))?;
             texts.push(text)?;
         }
         Ok(texts)
@@ -59,20 +73,21 @@ impl Reader<'_> {
         Ok(numbers)
     }
 
-    /// A count and that many texts. `form.behind` ends the list, and a list of no text its count.
+    /// A count up to `most`, and that many texts within the bounds of their type. `end` stands
+    /// behind the list, and behind a count of 0.
     #[tactic(auto, unfolding(crate::specs::Lists::text_list_at))]
-    pub fn text_list(
+    pub fn text_list<const LEAST: usize, const MOST: usize>(
         &mut self,
         alloc: Global,
         most: u32,
-        form: TextForm,
-    ) -> Result<Vec<Text>, ReadError>
-        requires counts { is_number_form (count_form most form.behind) ≡ true }
-        requires texts { is_text_form form ≡ true }
-        ensures { Takes (λ v. v.items) result self.new.rest.now (text_list_at most form self.old.rest.now) }
+        end: End,
+    ) -> Result<Vec<BoundedText<LEAST, MOST>>, ReadError>
+        requires counts { is_number_form (count_form most end) ≡ true }
+        requires texts { is_text_form (text_form LEAST MOST end) ≡ true }
+        ensures taken { Takes (λ v. v.items) result self.new.rest.now (text_list_at most (text_form LEAST MOST end) self.old.rest.now) }
     {
-        let count = self.number(counting(most, form.behind))?;
-        let texts = self.texts(alloc, count, form)?;
+        let count = self.number(counting(most, end))?;
+        let texts = self.texts(alloc, count, end)?;
         Ok(texts)
     }
 

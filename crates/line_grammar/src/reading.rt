@@ -1,17 +1,17 @@
 //! The reader of a line, word by word.
-ghost use Rattle.std.specs.Prelude.{◌≡◌, ◌≤◌, true, map, IfOk};
+ghost use Rattle.std.specs.Prelude.{◌≡◌, ◌≤◌, true, map, length, IfOk};
 ghost use Rattle.line_grammar.specs.Reading.{Takes};
 ghost use Rattle.line_grammar.specs.Numbers.{is_number_form, number_at};
 ghost use Rattle.line_grammar.specs.Choices.{words_at};
 ghost use Rattle.line_grammar.specs.Dashes.{end_words, optional_at, minus, code_at};
-ghost use Rattle.line_grammar.specs.Texts.{is_text_form, text_at};
+ghost use Rattle.line_grammar.specs.Texts.{text_form, is_text_form, text_at};
 
 use crate::choices::behind;
 use crate::ends::End;
 use crate::faults::ReadError;
 use crate::numbers::{NumberForm, NumberMove, NumberStage};
 use crate::texts::{TextForm, TextMove, TextStage};
-use job_values::Text;
+use job_values::{BoundedText, Text};
 use std::alloc::Global;
 
 /// Reads words from the front of the bytes that are left. After an error nothing is said of what is
@@ -96,16 +96,38 @@ impl Reader<'_> {
     }
 
     /// A text and the byte behind it.
-    #[tactic(auto, using(crate::proofs::Words::text_utf8))]
+    #[tactic(auto, using(crate::proofs::Words::text_utf8, crate::proofs::Words::text_within))]
     pub fn text(&mut self, alloc: Global, form: TextForm) -> Result<Text, ReadError>
         requires { is_text_form form ≡ true }
-        ensures { Takes (λ t. t) result self.new.rest.now (text_at form self.old.rest.now) }
+        ensures taken { Takes (λ t. t) result self.new.rest.now (text_at form self.old.rest.now) }
+        ensures least { IfOk result (λ t. form.least ≤ length t) }
+        ensures greatest { IfOk result (λ t. length t ≤ form.greatest) }
     {
         let bytes = self.text_bytes(alloc, form)?;
         match String::from_utf8(bytes) {
             Ok(text) => Ok(Text::of(text)),
             Err(_) => unreachable!(),
         }
+    }
+
+    /// A text within the bounds of its type, and the byte behind it.
+    pub fn bounded<const LEAST: usize, const MOST: usize>(
+        &mut self,
+        alloc: Global,
+        behind: End,
+    ) -> Result<BoundedText<LEAST, MOST>, ReadError>
+        requires { is_text_form (text_form LEAST MOST behind) ≡ true }
+        ensures { Takes (λ t. t) result self.new.rest.now (text_at (text_form LEAST MOST behind) self.old.rest.now) }
+    {
+        let text = self.text(
+            alloc,
+            TextForm {
+                least: LEAST,
+                greatest: MOST,
+                behind,
+            },
+        )?;
+        Ok(BoundedText::of(text))
     }
 
     /// The byte that ends a word.

@@ -1,7 +1,6 @@
 //! Texts between quotes, read byte by byte.
 ghost use Rattle.std.specs.Prelude.{◌≡◌};
 ghost use Rattle.line_grammar.specs.Texts.{tail_of, lead_move, open_move, slash_move, hex_move, stage_behind, text_move};
-ghost use Rattle.line_grammar.specs.Lists.{text_before};
 
 use crate::ends::End;
 
@@ -10,9 +9,9 @@ use crate::ends::End;
 #[derive(Clone, Copy, Debug, PartialEq, Eq)]
 pub struct TextForm {
     /// The least number of bytes.
-    pub least: u32,
+    pub least: usize,
     /// The greatest number of bytes.
-    pub greatest: u32,
+    pub greatest: usize,
     /// What stands behind the text.
     pub behind: End,
 }
@@ -158,19 +157,6 @@ fn hex(one: bool, byte: u8) -> TextMove
 }
 
 impl TextForm {
-    /// The form of a text of a list with so many texts after it.
-    pub(crate) fn before(self, others: u64) -> TextForm
-        ensures { result ≡ text_before others self }
-    {
-        match others {
-            0 => self,
-            _ => TextForm {
-                behind: End::Space,
-                ..self
-            },
-        }
-    }
-
     fn lead(self, len: usize, byte: u8) -> TextMove
         ensures { result ≡ lead_move self len byte (tail_of byte) }
     {
@@ -178,7 +164,7 @@ impl TextForm {
             None => TextMove::Wrong,
             Some(tail) => {
                 let whole = 2 + usize::from(tail.more);
-                let room = self.greatest as usize;
+                let room = self.greatest;
                 if whole <= room && len <= room - whole {
                     TextMove::Add(byte, TextStage::Inside(tail))
                 } else {
@@ -192,14 +178,14 @@ impl TextForm {
         ensures { result ≡ open_move self len byte }
     {
         if byte == b'"' {
-            return if self.least as usize <= len {
+            return if self.least <= len {
                 TextMove::Stay(TextStage::Closed)
             } else {
                 TextMove::Wrong
             };
         }
         if byte == b'\\' {
-            return if len < self.greatest as usize {
+            return if len < self.greatest {
                 TextMove::Stay(TextStage::Slash)
             } else {
                 TextMove::Wrong
@@ -209,7 +195,7 @@ impl TextForm {
             return TextMove::Wrong;
         }
         if byte < 0x80 {
-            return if len < self.greatest as usize {
+            return if len < self.greatest {
                 TextMove::Add(byte, TextStage::Open)
             } else {
                 TextMove::Wrong

@@ -8,3 +8,4 @@ pub mod Texts
 pub mod Dashes
 pub mod Lists
 pub mod Grammar
+pub mod Writing

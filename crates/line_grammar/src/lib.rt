@@ -9,9 +9,11 @@ mod lists;
 mod numbers;
 mod reading;
 mod texts;
+mod writing;
 
 pub use ends::End;
 pub use faults::ReadError;
 pub use numbers::{NumberForm, NumberMove, NumberStage};
 pub use reading::Reader;
 pub use texts::{Tail, TextForm, TextMove, TextStage};
+pub use writing::{write_byte, write_number, write_signed, write_text, write_texts, write_word};

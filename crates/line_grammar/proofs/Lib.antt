@@ -10,3 +10,4 @@ pub mod Either
 pub mod Words
 pub mod Loop
 pub mod GrammarLaws
+pub mod Spellings

@@ -9,3 +9,4 @@ pub mod Dashes
 pub mod Lists
 pub mod Grammar
 pub mod Writing
+pub mod Laws

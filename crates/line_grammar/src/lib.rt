@@ -5,6 +5,7 @@
 mod choices;
 mod ends;
 mod faults;
+pub mod laws;
 mod lists;
 mod numbers;
 mod reading;

@@ -185,7 +185,8 @@ impl TextForm {
             };
         }
         if byte == b'\\' {
-            return if len < self.greatest {
+            let has_room = len < self.greatest;
+            return if has_room {
                 TextMove::Stay(TextStage::Slash)
             } else {
                 TextMove::Wrong

@@ -1,9 +1,9 @@
 -- Languages that are read, one after the other.
-use Rattle.std.proofs.Common.{◌≡◌, ℕ, suc, ◌+◌, List, [], ◌∷◌, ◌++◌, length, Result, Ok, Err, refl, sym, ap, subst, ◌∙◌, append_assoc}
+use Rattle.std.proofs.Common.{◌≡◌, ℕ, List, [], ◌∷◌, ◌++◌, Result, Ok, Err, refl, sym, ap, subst, ◌∙◌, append_assoc}
 use Rattle.std.proofs.lemmas.List.{append-nil}
 use Rattle.line_grammar.proofs.Fronts.{longer}
 use Rattle.line_grammar.specs.Reading.{◌>>=◌}
-use Rattle.line_grammar.specs.Languages.{Begins, Stops, IsOnly, Then, Reads}
+use Rattle.line_grammar.specs.Languages.{Stops, IsOnly, Then, Reads}
 
 -- the value of a step that did not fail
 pub bind_ok : {A B : Type 0} (r : Result A ℕ) (f : A → Result B ℕ) (y : B) → (r >>= f) ≡ Ok y → (x : A) × (r ≡ Ok x) × (f x ≡ Ok y)

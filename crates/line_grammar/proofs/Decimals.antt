@@ -1,21 +1,19 @@
 -- Numbers are read and said.
-use Rattle.std.proofs.Common.{◌≡◌, ◌⊎◌, ℕ, zero, suc, ◌+◌, ◌-◌, ◌*◌, ◌/◌, ◌%◌, ◌^◌, ◌≤◌, ◌<◌, Bool, true, false, ◌&&◌, ◌||◌, cond, ltb, leb, eqb, List, [], ◌∷◌, ◌++◌, length, Result, Ok, Err, refl, sym, ap, subst, ◌∙◌, append_assoc, inl, inr, arith}
+use Rattle.std.proofs.Common.{◌≡◌, ◌⊎◌, ℕ, zero, suc, ◌+◌, ◌-◌, ◌*◌, ◌/◌, ◌%◌, ◌^◌, ◌≤◌, ◌<◌, Bool, true, false, ◌&&◌, ◌||◌, cond, ltb, leb, eqb, List, [], ◌∷◌, ◌++◌, Ok, refl, sym, ap, subst, ◌∙◌, append_assoc, inl, inr, arith}
 use Rattle.std.specs.Prelude.{decimal}
 use Rattle.std.proofs.lemmas.Fmt.{decimal_digit, decimal_step}
-use Rattle.std.proofs.lemmas.Bool.{cases_lt, ltb-true, ltb-false, leb-true, leb-false, eqb-true, eqb-false, lt-ltb, le-ltb, le-leb, eq-eqb, ne_eqb, and_parts, or_parts, or_from}
-use Rattle.std.proofs.lemmas.List.{append-nil}
+use Rattle.std.proofs.lemmas.Bool.{cases_lt, ltb-true, ltb-false, leb-true, eqb-true, eqb-false, le-ltb, le-leb, eq-eqb, ne_eqb, and_parts, or_parts}
 use Rattle.line_grammar.specs.declared.ends.End.{End}
 use Rattle.line_grammar.specs.declared.ends.End.TheVariants.{Space, Line}
 use Rattle.line_grammar.specs.declared.numbers.NumberForm.{NumberForm}
 use Rattle.line_grammar.specs.declared.numbers.NumberStage.{NumberStage}
 use Rattle.line_grammar.specs.declared.numbers.NumberStage.TheVariants.{First, Zero, Value}
-use Rattle.line_grammar.specs.declared.numbers.NumberMove.{NumberMove}
 use Rattle.line_grammar.specs.declared.numbers.NumberMove.TheVariants.{More, Whole, Wrong}
 use Rattle.line_grammar.specs.Ends.{end_byte}
 use Rattle.line_grammar.specs.Languages.{Begins, Reads}
-use Rattle.line_grammar.specs.Automata.{Step, Goes, Ends, Refuses, after, run}
-use Rattle.line_grammar.specs.Numbers.{end_of, number_text, IsNumber, is_number_form, number_move, number_step_of, number_step, number_at}
-use Rattle.line_grammar.proofs.Machines.{Machine, machine_reads}
+use Rattle.line_grammar.specs.Automata.{Step, Goes, Ends, after, run}
+use Rattle.line_grammar.specs.Numbers.{end_of, number_text, IsNumber, is_number_form, number_step_of, number_step, number_at}
+use Rattle.line_grammar.proofs.Machines.{machine_reads}
 
 -- ---- digits
 

@@ -1,17 +1,15 @@
 -- Words that may begin with `-` are read and said.
-use Rattle.std.proofs.Common.{◌≡◌, ◌⊎◌, ℕ, zero, suc, ℤ, ◌+◌, ◌/◌, ◌%◌, ◌^◌, ◌≤◌, ◌<◌, Bool, true, false, cond, eqb, List, [], ◌∷◌, ◌++◌, length, Option, Result, Ok, Err, refl, sym, ap, subst, ◌∙◌, append_assoc, inl, inr, arith, length-append}
+use Rattle.std.proofs.Common.{◌≡◌, ℕ, zero, suc, ◌+◌, ◌/◌, ◌%◌, ◌^◌, ◌≤◌, ◌<◌, Bool, true, false, cond, eqb, List, [], ◌∷◌, ◌++◌, length, Result, Ok, Err, refl, sym, ap, subst, ◌∙◌, inl, inr, arith, length-append}
 use Rattle.std.specs.Prelude.{decimal}
-use Rattle.std.proofs.lemmas.Bool.{cases_lt, eqb-true, eqb-false, eq-eqb, ne_eqb}
+use Rattle.std.proofs.lemmas.Bool.{cases_lt, eqb-true, eqb-false, ne_eqb}
 use Rattle.std.proofs.lemmas.Fmt.{decimal_digit, decimal_step}
 use Rattle.line_grammar.specs.declared.ends.End.{End}
-use Rattle.line_grammar.specs.declared.ends.End.TheVariants.{Space, Line}
 use Rattle.line_grammar.specs.declared.numbers.NumberForm.{NumberForm}
 use Rattle.line_grammar.specs.declared.texts.TextForm.{TextForm}
 use Rattle.line_grammar.specs.Ends.{end_byte}
-use Rattle.line_grammar.specs.Reading.{◌>>=◌}
-use Rattle.line_grammar.specs.Languages.{Begins, Stops, Reads}
+use Rattle.line_grammar.specs.Languages.{Stops, Reads}
 use Rattle.line_grammar.specs.Choices.{IsWord, words_at}
-use Rattle.line_grammar.specs.Numbers.{end_of, IsNumber, is_number_form, number_at}
+use Rattle.line_grammar.specs.Numbers.{end_of, IsNumber, number_at}
 use Rattle.line_grammar.specs.Texts.{spelled, IsText, is_text_form, text_at}
 use Rattle.line_grammar.specs.Dashes.{Either, seen, either_at, no_text, some_text, end_words, IsOptional, optional_at, plus_form, minus_form, plus, minus, IsCode, code_at}
 use Rattle.line_grammar.proofs.Fronts.{cons_parts}

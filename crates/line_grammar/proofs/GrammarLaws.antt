@@ -1,6 +1,5 @@
 -- Lists and whole grammars are read and said.
-use Rattle.std.proofs.Common.{◌≡◌, ℕ, zero, suc, ℤ, Bool, true, List, [], ◌∷◌, ◌++◌, Option, Result, Ok, Err}
-use Rattle.line_grammar.specs.declared.ends.End.{End}
+use Rattle.std.proofs.Common.{◌≡◌, ℕ, zero, suc, true, [], ◌∷◌, Ok}
 use Rattle.line_grammar.specs.declared.numbers.NumberForm.{NumberForm}
 use Rattle.line_grammar.specs.declared.texts.TextForm.{TextForm}
 use Rattle.line_grammar.specs.Languages.{IsOnly, Then, Reads}

@@ -1,10 +1,9 @@
 -- Fixed words are read and said.
-use Rattle.std.proofs.Common.{◌≡◌, ◌⊎◌, ℕ, zero, suc, ◌+◌, ◌≤◌, ◌<◌, min, Bool, true, false, ◌&&◌, cond, eqb, List, [], ◌∷◌, ◌++◌, length, Result, Ok, Err, refl, sym, ap, subst, ◌∙◌, append_assoc, inl, inr, arith, length-append}
-use Rattle.std.proofs.lemmas.Bool.{cases_lt, eqb-true, eqb-false, eq-eqb, ne_eqb, and_parts, false≢true}
-use Rattle.std.proofs.lemmas.List.{append-nil}
+use Rattle.std.proofs.Common.{◌≡◌, ◌⊎◌, ℕ, zero, suc, ◌+◌, ◌≤◌, min, Bool, true, false, cond, eqb, List, [], ◌∷◌, ◌++◌, length, Result, Ok, Err, refl, sym, ap, subst, ◌∙◌, append_assoc, inl, inr, arith}
+use Rattle.std.proofs.lemmas.Bool.{cases_lt, eqb-true, eqb-false, eq-eqb, and_parts, false≢true}
 use Rattle.line_grammar.specs.Languages.{Begins, Stops, Reads}
 use Rattle.line_grammar.specs.Choices.{IsWord, word_at, words_from, word_or, words_at, apart, all_apart, are_apart}
-use Rattle.line_grammar.proofs.Algebra.{good, bad, ok_is, err_is, ok≢err}
+use Rattle.line_grammar.proofs.Algebra.{good, ok_is, err_is, ok≢err}
 use Rattle.line_grammar.proofs.Fronts.{cons_parts}
 
 -- ---- one word

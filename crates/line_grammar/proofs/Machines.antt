@@ -1,9 +1,9 @@
 -- A word that is read byte by byte reads its language.
-use Rattle.std.proofs.Common.{◌≡◌, ℕ, suc, ◌+◌, List, [], ◌∷◌, ◌++◌, length, Result, Ok, Err, refl, sym, ap, subst, ◌∙◌, append_assoc}
+use Rattle.std.proofs.Common.{◌≡◌, ℕ, suc, List, [], ◌∷◌, ◌++◌, length, Ok, Err, refl, sym, ap, subst, ◌∙◌, append_assoc}
 use Rattle.std.proofs.lemmas.List.{append-nil}
 use Rattle.line_grammar.specs.Languages.{Begins, Stops, Reads}
 use Rattle.line_grammar.specs.Automata.{Step, Goes, Ends, Refuses, after, run}
-use Rattle.line_grammar.proofs.Algebra.{good, bad, ok_is, err_is, ok≢err}
+use Rattle.line_grammar.proofs.Algebra.{ok_is, err_is, ok≢err}
 
 -- what is to be known of the steps of a word: at which bytes each state stands, and what each step gives
 pub record Machine {S V : Type 0} (L : V → List ℕ → Type 0) (step : S → ℕ → Step S V) (start : S) (Stands : S → List ℕ → Type 0) : Type 0 where

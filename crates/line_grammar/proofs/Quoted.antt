@@ -1,13 +1,11 @@
 -- Texts are read and said.
-use Rattle.std.proofs.Common.{◌≡◌, ◌⊎◌, ℕ, zero, suc, ◌+◌, ◌-◌, ◌*◌, ◌/◌, ◌%◌, ◌≤◌, ◌<◌, Bool, true, false, ◌&&◌, ◌||◌, cond, ltb, leb, eqb, List, [], ◌∷◌, ◌++◌, length, Option, Some, None, Result, Ok, Err, refl, sym, ap, subst, ◌∙◌, append_assoc, inl, inr, arith, length-append}
+use Rattle.std.proofs.Common.{◌≡◌, ◌⊎◌, ℕ, zero, suc, ◌+◌, ◌-◌, ◌/◌, ◌%◌, ◌≤◌, ◌<◌, Bool, true, false, ◌||◌, cond, ltb, leb, eqb, List, [], ◌∷◌, ◌++◌, length, Option, Some, None, Ok, refl, sym, ap, subst, ◌∙◌, append_assoc, inl, inr, arith, length-append}
 use Rattle.std.specs.Str.{IsUtf8}
-use Rattle.std.specs.List.{flat_map}
 use lib.Utf8.{scalar, scalars, encode, encodes}
-use Rattle.std.proofs.lemmas.Bool.{cases_lt, cases_eq, ltb-true, ltb-false, leb-true, leb-false, eqb-true, eqb-false, lt-ltb, le-ltb, le-leb, eq-eqb, ne_eqb, and_parts, or_parts, or_cases, cond_both}
+use Rattle.std.proofs.lemmas.Bool.{cases_lt, cases_eq, ltb-true, ltb-false, leb-true, eqb-true, eqb-false, lt-ltb, le-ltb, le-leb, eq-eqb, ne_eqb, and_parts, or_parts, or_cases, cond_both}
 use Rattle.std.proofs.lemmas.List.{append-nil}
 use Rattle.std.proofs.lemmas.List.Concat.{flat_map-append}
 use Rattle.std.proofs.lemmas.Str.{IsUtf8-append, IsUtf8-nil, IsUtf8-encode, encode_ascii}
-use Rattle.line_grammar.specs.declared.ends.End.{End}
 use Rattle.line_grammar.specs.declared.texts.TextForm.{TextForm}
 use Rattle.line_grammar.specs.declared.texts.Tail.{Tail}
 use Rattle.line_grammar.specs.declared.texts.TextStage.{TextStage}
@@ -16,10 +14,10 @@ use Rattle.line_grammar.specs.declared.texts.TextMove.{TextMove}
 use Rattle.line_grammar.specs.declared.texts.TextMove.TheVariants.{Stay, Add, Whole, Wrong}
 use Rattle.line_grammar.specs.Ends.{end_byte}
 use Rattle.line_grammar.specs.Languages.{Begins, Reads}
-use Rattle.line_grammar.specs.Automata.{Step, Goes, Ends, Refuses, after, run}
-use Rattle.line_grammar.specs.Texts.{hex_digit, escape, spelled, text_text, IsText, is_text_form, tail_of, stage_behind, lead_move, open_move, slash_move, hex_move, text_move, text_step_of, text_step, text_at}
-use Rattle.line_grammar.proofs.Machines.{Machine, machine_reads}
-use Rattle.line_grammar.proofs.Utf8.{AreNext, IsTail, tail, IsLead, lead_of, IsWide, wide}
+use Rattle.line_grammar.specs.Automata.{Step, Goes, Ends, after, run}
+use Rattle.line_grammar.specs.Texts.{hex_digit, escape, spelled, text_text, IsText, is_text_form, tail_of, stage_behind, lead_move, text_move, text_step_of, text_step, text_at}
+use Rattle.line_grammar.proofs.Machines.{machine_reads}
+use Rattle.line_grammar.proofs.Utf8.{AreNext, IsTail, tail, lead_of, IsWide, wide}
 
 -- ---- how bytes are written
 

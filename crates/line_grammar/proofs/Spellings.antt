@@ -1,21 +1,18 @@
 -- Each word has one spelling, which is what its writer writes.
-use Rattle.std.proofs.Common.{◌≡◌, ◌⊎◌, ℕ, zero, suc, ℤ, pos, negsuc, ◌+◌, ◌≤◌, List, [], ◌∷◌, ◌++◌, length, Option, Some, None, Result, Ok, Err, true, refl, sym, ap, subst, ◌∙◌, append_assoc, inl, inr, arith}
+use Rattle.std.proofs.Common.{◌≡◌, ℕ, zero, suc, ℤ, ◌≤◌, List, [], ◌∷◌, ◌++◌, length, Option, refl, sym, ap, subst, ◌∙◌, append_assoc, inl, inr, arith}
 use Rattle.std.specs.Prelude.{decimal}
 use Rattle.std.specs.List.{flat_map, AllByRecursion}
 use Rattle.std.proofs.lemmas.List.{append-nil}
 use Rattle.line_grammar.specs.declared.ends.End.{End}
-use Rattle.line_grammar.specs.declared.ends.End.TheVariants.{Space, Line}
 use Rattle.line_grammar.specs.declared.numbers.NumberForm.{NumberForm}
 use Rattle.line_grammar.specs.declared.texts.TextForm.{TextForm}
 use Rattle.line_grammar.specs.Ends.{end_byte}
-use Rattle.line_grammar.specs.Languages.{IsOnly, Then, Reads}
-use Rattle.line_grammar.specs.Numbers.{end_of, number_text, IsNumber, is_number_form, number_at}
-use Rattle.line_grammar.specs.Texts.{spelled, text_text, IsText, is_text_form, text_at}
+use Rattle.line_grammar.specs.Numbers.{end_of, number_text, IsNumber}
+use Rattle.line_grammar.specs.Texts.{spelled, text_text, IsText}
 use Rattle.line_grammar.specs.Choices.{IsWord}
-use Rattle.line_grammar.specs.Dashes.{some_text, no_text, end_words, IsOptional, plus_form, minus_form, plus, minus, IsCode}
-use Rattle.line_grammar.specs.Lists.{end_before, text_before, number_before, count_form, IsTexts, IsNumbers, IsTextList, IsNumberList, text_list_at, number_list_at}
-use Rattle.line_grammar.specs.Writing.{quoted, spaced_text, spaced_number, counted_texts, counted_numbers}
-use Rattle.line_grammar.specs.Grammar.{Grammar, Says, reading}
+use Rattle.line_grammar.specs.Dashes.{some_text, no_text, IsOptional, plus_form, minus_form, plus, minus, IsCode}
+use Rattle.line_grammar.specs.Lists.{end_before, text_before, number_before, count_form, IsTexts, IsNumbers, IsTextList, IsNumberList}
+use Rattle.line_grammar.specs.Writing.{spaced_text, spaced_number, counted_texts, counted_numbers}
 use Rattle.line_grammar.specs.Laws.{IsOneWay, WordsHaveOneSpelling, IsNumberOf, IsTextOf, WordsAreReadAgain}
 use Rattle.line_grammar.proofs.Decimals.{number_reads}
 use Rattle.line_grammar.proofs.Quoted.{text_reads}

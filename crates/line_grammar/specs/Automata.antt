@@ -1,5 +1,5 @@
 -- Words that are read byte by byte.
-use Rattle.std.specs.Prelude.{◌≡◌, ℕ, suc, List, [], ◌∷◌, length, Result, Ok, Err}
+use Rattle.std.specs.Prelude.{ℕ, suc, List, [], ◌∷◌, length, Result, Ok, Err}
 
 -- what a byte does: it goes on, ends the word, or may not stand there
 pub data Step (S V : Type 0) : Type 0 where

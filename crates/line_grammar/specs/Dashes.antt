@@ -1,5 +1,5 @@
 -- Words that may begin with `-`: a text or none, and a signed number.
-use Rattle.std.specs.Prelude.{◌≡◌, ℕ, zero, suc, ℤ, pos, negsuc, ◌==◌, ◌⊎◌, if◌then◌else◌, List, [], ◌∷◌, ◌++◌, Option, Some, None, Result, Ok, Err}
+use Rattle.std.specs.Prelude.{◌≡◌, ℕ, zero, suc, ℤ, pos, negsuc, ◌==◌, ◌⊎◌, if◌then◌else◌, List, [], ◌∷◌, Option, Some, None, Result, Ok}
 use Rattle.line_grammar.specs.declared.ends.End.{End}
 use Rattle.line_grammar.specs.declared.numbers.NumberForm.{NumberForm}
 use Rattle.line_grammar.specs.declared.texts.TextForm.{TextForm}

@@ -1,5 +1,5 @@
 -- Grammars of lines: a tree of words whose branches depend on what each word says.
-use Rattle.std.specs.Prelude.{◌≡◌, ℕ, ℤ, true, List, [], ◌∷◌, Option, Result, Ok}
+use Rattle.std.specs.Prelude.{◌≡◌, ℕ, ℤ, true, List, ◌∷◌, Option, Result, Ok}
 use Rattle.line_grammar.specs.declared.ends.End.{End}
 use Rattle.line_grammar.specs.declared.numbers.NumberForm.{NumberForm}
 use Rattle.line_grammar.specs.declared.texts.TextForm.{TextForm}

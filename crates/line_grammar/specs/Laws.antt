@@ -1,5 +1,5 @@
 -- What holds of every grammar, and of every word.
-use Rattle.std.specs.Prelude.{◌≡◌, ℕ, ℤ, true, ◌≤◌, List, [], ◌∷◌, ◌++◌, length, Option, Ok}
+use Rattle.std.specs.Prelude.{◌≡◌, ℕ, true, ◌≤◌, List, [], ◌∷◌, ◌++◌, length, Ok}
 use Rattle.std.specs.Str.{IsUtf8}
 use Rattle.std.specs.List.{AllByRecursion}
 use Rattle.line_grammar.specs.declared.ends.End.{End}

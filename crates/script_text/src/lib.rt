@@ -1,0 +1,9 @@
+//! The lines of a script: each event as its one line, read with the exact column of a fault, and the
+//! texts of replies and of the report.
+#![tactic(auto)]
+
+mod faults;
+mod reading;
+mod words;
+
+pub use faults::{LineError, LineFault};

@@ -1,5 +1,5 @@
 -- Each word has one spelling, which is what its writer writes.
-use Rattle.std.proofs.Common.{◌≡◌, ℕ, zero, suc, ℤ, ◌≤◌, List, [], ◌∷◌, ◌++◌, length, Option, refl, sym, ap, subst, ◌∙◌, append_assoc, inl, inr, arith}
+use Rattle.std.proofs.Common.{◌≡◌, true, ℕ, zero, suc, ℤ, ◌≤◌, List, [], ◌∷◌, ◌++◌, length, Option, Ok, refl, sym, ap, subst, ◌∙◌, append_assoc, inl, inr, arith}
 use Rattle.std.specs.Prelude.{decimal}
 use Rattle.std.specs.List.{flat_map, AllByRecursion}
 use Rattle.std.proofs.lemmas.List.{append-nil}
@@ -7,11 +7,11 @@ use Rattle.line_grammar.specs.declared.ends.End.{End}
 use Rattle.line_grammar.specs.declared.numbers.NumberForm.{NumberForm}
 use Rattle.line_grammar.specs.declared.texts.TextForm.{TextForm}
 use Rattle.line_grammar.specs.Ends.{end_byte}
-use Rattle.line_grammar.specs.Numbers.{end_of, number_text, IsNumber}
-use Rattle.line_grammar.specs.Texts.{spelled, text_text, IsText}
+use Rattle.line_grammar.specs.Numbers.{end_of, number_text, IsNumber, is_number_form}
+use Rattle.line_grammar.specs.Texts.{spelled, text_text, IsText, is_text_form}
 use Rattle.line_grammar.specs.Choices.{IsWord}
 use Rattle.line_grammar.specs.Dashes.{some_text, no_text, IsOptional, plus_form, minus_form, plus, minus, IsCode}
-use Rattle.line_grammar.specs.Lists.{end_before, text_before, number_before, count_form, IsTexts, IsNumbers, IsTextList, IsNumberList}
+use Rattle.line_grammar.specs.Lists.{end_before, text_before, number_before, count_form, IsTexts, IsNumbers, IsTextList, IsNumberList, text_list_at, number_list_at}
 use Rattle.line_grammar.specs.Writing.{spaced_text, spaced_number, counted_texts, counted_numbers}
 use Rattle.line_grammar.specs.Laws.{IsOneWay, WordsHaveOneSpelling, IsNumberOf, IsTextOf, WordsAreReadAgain}
 use Rattle.line_grammar.proofs.Decimals.{number_reads}
@@ -125,6 +125,12 @@ text_list_found most form ts text h =
     let r = texts_found form h.0 ts h.2 h.4 in
     h.5 ∙ ap (λ (x : List ℕ). x ++ h.2) (h.3.2 ∙ ap (number_text (count_form most form.behind)) r.0) ∙ ap (λ (x : List ℕ). number_text (count_form most form.behind) (length ts) ++ x) r.1 ∙ texts_whole most form ts
 
+-- a list that was read has no more texts than its count may say
+pub text_list_within : (most : ℕ) (form : TextForm) (bytes : List ℕ) (ts : List (List ℕ)) (rest : List ℕ) → is_number_form (count_form most form.behind) ≡ true → is_text_form form ≡ true → text_list_at most form bytes ≡ Ok (ts, rest) → length ts ≤ most
+text_list_within most form bytes ts rest counts ok e =
+    let h = ((text_list_reads most form counts ok).found bytes ts rest e).1 in
+    omega (arith, h.3.1, (texts_found form h.0 ts h.2 h.4).0)
+
 -- ---- lists of numbers
 
 abbrev numbers_text : NumberForm → List ℕ → List ℕ
@@ -178,6 +184,12 @@ pub number_list_found : (most : ℕ) (form : NumberForm) (ns text : List ℕ) �
 number_list_found most form ns text h =
     let r = numbers_found form h.0 ns h.2 h.4 in
     h.5 ∙ ap (λ (x : List ℕ). x ++ h.2) (h.3.2 ∙ ap (number_text (count_form most form.behind)) r.0) ∙ ap (λ (x : List ℕ). number_text (count_form most form.behind) (length ns) ++ x) r.1 ∙ numbers_whole most form ns
+
+pub number_list_within : (most : ℕ) (form : NumberForm) (bytes ns rest : List ℕ) → is_number_form (count_form most form.behind) ≡ true → is_number_form form ≡ true → number_list_at most form bytes ≡ Ok (ns, rest) → (length ns ≤ most) × AllByRecursion (IsNumberOf form) ns
+number_list_within most form bytes ns rest counts ok e =
+    let h = ((number_list_reads most form counts ok).found bytes ns rest e).1 in
+    let r = numbers_found form h.0 ns h.2 h.4 in
+    (omega (arith, h.3.1, r.0), r.2)
 
 -- ---- the laws
 

@@ -17,7 +17,9 @@ pub use faults::ReadError;
 pub use numbers::{NumberForm, NumberMove, NumberStage};
 pub use reading::Reader;
 pub use texts::{Tail, TextForm, TextMove, TextStage};
-pub use writing::{write_byte, write_number, write_signed, write_text, write_texts, write_word};
+pub use writing::{
+    write_bounded, write_byte, write_number, write_signed, write_text, write_texts, write_word,
+};
 
 #[cfg(test)]
 mod tests;

@@ -1,5 +1,7 @@
 //! Lists with their count in front.
-ghost use Rattle.std.specs.Prelude.{◌≡◌, true};
+ghost use Rattle.std.specs.Prelude.{◌≡◌, ◌≤◌, true, length, IfOk};
+ghost use Rattle.std.specs.List.{AllByRecursion};
+ghost use Rattle.line_grammar.specs.Laws.{IsNumberOf};
 ghost use Rattle.line_grammar.specs.Reading.{Takes};
 ghost use Rattle.line_grammar.specs.Numbers.{is_number_form};
 ghost use Rattle.line_grammar.specs.Texts.{text_form, is_text_form};
@@ -75,7 +77,7 @@ impl Reader<'_> {
 
     /// A count up to `most`, and that many texts within the bounds of their type. `end` stands
     /// behind the list, and behind a count of 0.
-    #[tactic(auto, unfolding(crate::specs::Lists::text_list_at))]
+    #[tactic(auto, using(crate::proofs::Spellings::text_list_within))]
     pub fn text_list<const LEAST: usize, const MOST: usize>(
         &mut self,
         alloc: Global,
@@ -85,6 +87,22 @@ impl Reader<'_> {
         requires counts { is_number_form (count_form most end) ≡ true }
         requires texts { is_text_form (text_form LEAST MOST end) ≡ true }
         ensures taken { Takes (λ v. v.items) result self.new.rest.now (text_list_at most (text_form LEAST MOST end) self.old.rest.now) }
+        ensures most { IfOk result (λ v. length v.items ≤ most) }
+    {
+        let texts = self.counted_texts(alloc, most, end)?;
+        Ok(texts)
+    }
+
+    #[tactic(auto, unfolding(crate::specs::Lists::text_list_at))]
+    fn counted_texts<const LEAST: usize, const MOST: usize>(
+        &mut self,
+        alloc: Global,
+        most: u32,
+        end: End,
+    ) -> Result<Vec<BoundedText<LEAST, MOST>>, ReadError>
+        requires counts { is_number_form (count_form most end) ≡ true }
+        requires texts { is_text_form (text_form LEAST MOST end) ≡ true }
+        ensures { Takes (λ v. v.items) result self.new.rest.now (text_list_at most (text_form LEAST MOST end) self.old.rest.now) }
     {
         let count = self.number(counting(most, end))?;
         let texts = self.texts(alloc, count, end)?;
@@ -92,8 +110,25 @@ impl Reader<'_> {
     }
 
     /// A count and that many numbers. `form.behind` ends the list, and a list of no number its count.
-    #[tactic(auto, unfolding(crate::specs::Lists::number_list_at))]
+    #[tactic(auto, using(crate::proofs::Spellings::number_list_within))]
     pub fn number_list(
+        &mut self,
+        alloc: Global,
+        most: u32,
+        form: NumberForm,
+    ) -> Result<Vec<u64>, ReadError>
+        requires counts { is_number_form (count_form most form.behind) ≡ true }
+        requires numbers { is_number_form form ≡ true }
+        ensures taken { Takes (λ v. v.items) result self.new.rest.now (number_list_at most form self.old.rest.now) }
+        ensures most { IfOk result (λ v. length v.items ≤ most) }
+        ensures within { IfOk result (λ v. AllByRecursion (IsNumberOf form) v.items) }
+    {
+        let numbers = self.counted_numbers(alloc, most, form)?;
+        Ok(numbers)
+    }
+
+    #[tactic(auto, unfolding(crate::specs::Lists::number_list_at))]
+    fn counted_numbers(
         &mut self,
         alloc: Global,
         most: u32,

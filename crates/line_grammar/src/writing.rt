@@ -2,9 +2,12 @@
 //! behind them.
 ghost use Rattle.std.specs.Prelude.{◌≡◌, ◌<◌, [], ◌∷◌, ◌++◌, OnOk, decimal};
 ghost use Rattle.std.specs.Fmt.{signed_decimal};
-ghost use Rattle.line_grammar.specs.Texts.{escape};
+ghost use Rattle.line_grammar.specs.Texts.{escape, text_form};
+ghost use Rattle.line_grammar.specs.Laws.{IsTextOf};
+ghost use Rattle.std.specs.List.{AllByRecursion};
 ghost use Rattle.line_grammar.specs.Writing.{quoted, counted_texts};
 
+use crate::ends::End;
 use itoa::Buffer;
 use job_values::{BoundedText, NoMemory};
 
@@ -87,12 +90,24 @@ pub fn write_texts<const LEAST: usize, const MOST: usize>(
     out: &mut Vec<u8>,
     texts: &[BoundedText<LEAST, MOST>],
 ) -> Result<(), NoMemory>
-    ensures { OnOk result (out.new.items ≡ out.old.items ++ counted_texts texts.now) }
+    ensures written { OnOk result (out.new.items ≡ out.old.items ++ counted_texts texts.now) }
+    ensures within { OnOk result (AllByRecursion (IsTextOf (text_form LEAST MOST End.Line)) texts.now) }
 {
     write_number(out, texts.len() as u64)?;
     for text in texts {
         write_byte(out, b' ')?;
-        write_text(out, text.as_str())?;
+        write_bounded(out, text)?;
     }
     Ok(())
+}
+
+/// Writes a text between quotes.
+pub fn write_bounded<const LEAST: usize, const MOST: usize>(
+    out: &mut Vec<u8>,
+    text: &BoundedText<LEAST, MOST>,
+) -> Result<(), NoMemory>
+    ensures written { OnOk result (out.new.items ≡ out.old.items ++ quoted text.now) }
+    ensures within { IsTextOf (text_form LEAST MOST End.Line) text.now }
+{
+    write_text(out, text.get().as_str())
 }

@@ -3,6 +3,7 @@
 #![tactic(auto)]
 
 mod faults;
+mod jobs;
 mod reading;
 mod words;
 

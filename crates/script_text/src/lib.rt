@@ -5,6 +5,9 @@
 mod faults;
 mod jobs;
 mod reading;
+mod replies;
 mod words;
 
 pub use faults::{LineError, LineFault};
+pub use reading::read_line;
+pub use replies::{write_reply, write_report};

@@ -1,15 +1,19 @@
 //! Lines, read word by word.
-ghost use Rattle.std.specs.Prelude.{map, IfOk};
+ghost use Rattle.std.specs.Prelude.{◌≡◌, ◌+◌, ◌-◌, ◌≤◌, ◌<◌, length, IfOk, IfErr};
+ghost use Rattle.job_values.specs.declared.cluster.ClusterEvent.{ClusterEvent};
 ghost use Rattle.line_grammar.specs.Reading.{Takes};
 ghost use Rattle.line_grammar.specs.Grammar.{reading};
 ghost use Rattle.line_grammar.specs.Dashes.{number_form};
 ghost use Rattle.line_grammar.specs.Lists.{text_list_at, number_list_at};
 ghost use Rattle.line_grammar.specs.Texts.{text_form};
-ghost use Rattle.script_text.specs.Lines.{start_line, addgroup_line, addjob_line, startjob_line, scan_line, step_line, turn_line, line};
+ghost use Rattle.script_text.specs.Lines.{start_line, addgroup_line, startjob_line, scan_line, step_line, turn_line, line, IsLine};
+ghost use Rattle.script_text.specs.Faults.{IsFaultOf, IsReadAs};
 
+use crate::faults::{LineError, LineFault};
 use crate::jobs::addjob;
 use crate::words::{first_admin, first_word, group_kind, group_kind_word, job, moment, zero};
 use job_values::{Addresses, ClusterEvent, Seq};
+use line_grammar::laws::law_grammar;
 use line_grammar::{End, ReadError, Reader};
 use std::alloc::Global;
 
@@ -78,5 +82,44 @@ fn any(reader: &mut Reader, alloc: Global) -> Result<ClusterEvent, ReadError>
         4 => scan(reader),
         5 => step(reader),
         _ => turn(reader),
+    }
+}
+
+/// The fault where so many bytes are left.
+fn fault(len: usize, left: usize) -> LineError
+    requires within { left ≤ len }
+    requires room { len < 4294967295 }
+    ensures { result ≡ LineError.Bad (record { column = len - left + 1 }) }
+{
+    LineError::Bad(LineFault {
+        column: (len - left + 1) as u32,
+    })
+}
+
+/// The event whose line the bytes are, its LF with them. The bytes are fewer than 2^32 - 1.
+pub fn read_line(alloc: Global, bytes: &[u8]) -> Result<ClusterEvent, LineError>
+    requires { length bytes.now < 4294967295 }
+    // What is read is the event of the line.
+    ensures line { IfOk result (λ event. IsLine event bytes.now) }
+    // What is a line is read, unless memory runs out.
+    ensures only { (event : ClusterEvent) → IsLine event bytes.now → IsReadAs event result }
+    // Bad comes exactly where no event has these bytes, with the exact column.
+    ensures fault { IfErr result (IsFaultOf bytes.now) }
+{
+    law_grammar::<ClusterEvent>();
+    let mut reader = Reader { rest: bytes };
+    match any(&mut reader, alloc) {
+        Ok(event) => {
+            let left = reader.rest.len();
+            if left == 0 {
+                Ok(event)
+            } else {
+                Err(fault(bytes.len(), left))
+            }
+        }
+        Err(error) => match error {
+            ReadError::Memory => Err(LineError::NoMemory),
+            ReadError::Bad(left) => Err(fault(bytes.len(), left)),
+        },
     }
 }

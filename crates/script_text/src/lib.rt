@@ -7,7 +7,9 @@ mod jobs;
 mod reading;
 mod replies;
 mod words;
+mod writing;
 
 pub use faults::{LineError, LineFault};
 pub use reading::read_line;
 pub use replies::{write_reply, write_report};
+pub use writing::write_line;

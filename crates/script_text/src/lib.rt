@@ -4,6 +4,7 @@
 
 mod faults;
 mod jobs;
+pub mod laws;
 mod reading;
 mod replies;
 mod words;

@@ -5,8 +5,10 @@ ghost use Rattle.line_grammar.specs.Dashes.{number_form};
 ghost use Rattle.line_grammar.specs.Laws.{IsNumberOf, IsTextOf};
 ghost use Rattle.line_grammar.specs.Writing.{spaced_number, spaced_text, counted_numbers};
 ghost use Rattle.line_grammar.specs.Texts.{text_form};
-ghost use Rattle.script_text.specs.Spelling.{spelling, event_words, spec_text, trigger_text, work_text, IsId, IsWithin, SpecFits, WorkFits};
+ghost use Rattle.script_text.specs.Lines.{IsLine};
+ghost use Rattle.script_text.specs.Spelling.{spelling, event_words, spec_text, trigger_text, work_text, IsBuilt, IsId, IsWithin, SpecFits, WorkFits};
 
+use crate::laws::law_one_line;
 use job_values::{BoundedText, ClusterEvent, JobId, JobSpec, NoMemory, Seq};
 use line_grammar::{End, write_bounded, write_byte, write_number, write_texts, write_word};
 use std::alloc::Global;
@@ -130,7 +132,18 @@ fn put_event(out: &mut Vec<u8>, event: &ClusterEvent) -> Result<(), NoMemory>
 /// The one line of an event, with its LF.
 pub fn write_line(alloc: Global, event: &ClusterEvent) -> Result<Seq<u8>, NoMemory>
     ensures spelled { IfOk result (λ bytes. bytes ≡ spelling event.now) }
+    // The line of the event, and no other bytes are one; of what is not built there is none.
+    ensures line { IfOk result (λ bytes. IsBuilt event.now → IsLine event.now bytes) }
     // The values of an event are always within the bounds of a line.
+    ensures within { OnOk result (IsWithin event.now) }
+{
+    law_one_line();
+    let bytes = spelled(alloc, event)?;
+    Ok(bytes)
+}
+
+fn spelled(alloc: Global, event: &ClusterEvent) -> Result<Seq<u8>, NoMemory>
+    ensures spelled { IfOk result (λ bytes. bytes ≡ spelling event.now) }
     ensures within { OnOk result (IsWithin event.now) }
 {
     let mut out = Vec::new(alloc);

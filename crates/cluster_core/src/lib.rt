@@ -15,3 +15,6 @@ mod scans;
 mod turns;
 
 pub use cluster::Cluster;
+
+#[cfg(test)]
+mod tests;

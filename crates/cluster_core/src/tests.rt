@@ -2,9 +2,9 @@
 use super::Cluster;
 use cluster_history::Settings;
 use job_values::{
-    Addresses, AdminNo, Address, AppName, Block, Case, Children, ClusterEvent, ClusterRefusal, ClusterReply,
-    GroupId, GroupKind, HandlerName, JobId, JobSpec, Misfire, Moment, Offset, Opened, ParamText, PoolAnswer,
-    Retries, Route, ScheduleKind, ScheduleText, Seq, Text, Timeout,
+    Address, Addresses, AdminNo, AppName, Block, Case, Children, ClusterEvent, ClusterRefusal,
+    ClusterReply, GroupId, GroupKind, HandlerName, JobId, JobSpec, Misfire, Moment, Offset, Opened,
+    ParamText, PoolAnswer, Retries, Route, ScheduleKind, ScheduleText, Seq, Text, Timeout,
 };
 use std::alloc::{AllocError, Global};
 use std::process::Abort;
@@ -32,7 +32,10 @@ fn admin(rt: &impl Abort, number: u8) -> AdminNo {
 
 fn addresses(rt: &impl Abort, alloc: Global, count: usize) -> Result<Addresses, Fail> {
     let mut list = Vec::new(alloc);
-    for address in ["http://e1:9999/", "http://e2:9999/", "http://e3:9999/"].iter().take(count) {
+    for address in ["http://e1:9999/", "http://e2:9999/", "http://e3:9999/"]
+        .iter()
+        .take(count)
+    {
         let address = Address::new(Text::copied(alloc, address)?).expect(rt, "an address");
         list.push(address)?;
     }
@@ -269,10 +272,25 @@ fn turns_take_two_slots(rt: HostRuntime) -> Result<(), Fail> {
 #[test]
 fn late_and_misfire(rt: HostRuntime) -> Result<(), Fail> {
     let late: [(&str, u64, u64, &str); 4] = [
-        ("10", 110_000, 130_000, "look 1 late 125000 140000 - 1 1:fast"),
+        (
+            "10",
+            110_000,
+            130_000,
+            "look 1 late 125000 140000 - 1 1:fast",
+        ),
         ("10", 110_000, 130_001, "look 1 misfire 125000 140001 - 0"),
-        ("3", 117_000, 127_000, "look 1 late 125000 133000 130000 1 1:fast"),
-        ("5", 115_000, 127_000, "look 1 late 125000 132000 - 1 1:fast"),
+        (
+            "3",
+            117_000,
+            127_000,
+            "look 1 late 125000 133000 130000 1 1:fast",
+        ),
+        (
+            "5",
+            115_000,
+            127_000,
+            "look 1 late 125000 132000 - 1 1:fast",
+        ),
     ];
     for (rate, started, scanned, look) in late {
         let _cluster = played(
@@ -332,7 +350,10 @@ fn one_scan_at_a_time(rt: HostRuntime) -> Result<(), Fail> {
             (Line::Run(111_000), "running 2 126000"),
             (Line::Step(0), "skip 1"),
             (Line::Scan(1, 130_000), "begun 1"),
-            (Line::Step(1), "look 1 late 126000 140000 - 3 1:fast 2:fast 3:fast"),
+            (
+                Line::Step(1),
+                "look 1 late 126000 140000 - 3 1:fast 2:fast 3:fast",
+            ),
         ],
     )?;
     assert_eq!(rt; cluster.counts().queued, 3);

@@ -1,17 +1,37 @@
-//! Workloads, one a word; with `smoke` each runs a few times and prints counts alone.
+//! Workloads, one a word: each prints its counts, its sizes and its operations per second. The word
+//! `smoke` runs every workload a few times and prints counts alone, the same each time.
 #![tactic(auto)]
 
+mod acts;
+mod api_messages;
 mod cron;
+mod parts;
 
+use std::alloc::Global;
+use std::io::Print;
+use std::sync::Wait;
+use std::thread::Threads;
+use std::time::Clock;
 use std::{env, io};
 
+fn smoke<R: Print + Clock + Threads + Wait + Sync>(rt: &R, alloc: Global) -> io::Result<()> {
+    cron::run(rt, alloc, 20, false)?;
+    parts::run(rt, alloc, 2_000, false)?;
+    api_messages::run(rt, alloc, 2, false)?;
+    acts::run(rt, alloc, 200, false)
+}
+
 fn main(rt: HostRuntime) -> io::Result<()> {
-    let mut smoke = false;
-    for word in env::args(&rt)? {
-        if word.as_str() == "smoke" {
-            smoke = true;
+    let alloc = rt.alloc();
+    for word in env::args(&rt)?.skip(1) {
+        match word.as_str() {
+            "smoke" => smoke(&rt, alloc)?,
+            "cron" => cron::run(&rt, alloc, 200_000, true)?,
+            "parts" => parts::run(&rt, alloc, 2_000_000, true)?,
+            "messages" => api_messages::run(&rt, alloc, 1_000, true)?,
+            "lock" => acts::run(&rt, alloc, 200_000, true)?,
+            other => println!(rt; "no workload {other}")?,
         }
     }
-    let rounds = if smoke { 20 } else { 200_000 };
-    cron::run(&rt, rt.alloc(), rounds, !smoke)
+    Ok(())
 }

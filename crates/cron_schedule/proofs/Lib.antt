@@ -6,4 +6,8 @@ pub mod CivilLemmas
 pub mod DueLemmas
 pub mod AfterLemmas
 pub mod RelationLemmas
+pub mod SplitLemmas
+pub mod GrammarLemmas
+pub mod WordLemmas
+pub mod CompleteLemmas
 pub mod LawLemmas

@@ -12,6 +12,7 @@ pub mod Civil
 pub mod Pieces
 pub mod Reading
 pub mod CronText
+pub mod Grammar
 pub mod Parse
 pub mod After
 pub mod PlanDue

@@ -1,5 +1,6 @@
 //! Laws of due times, each the contract of a function without parameters and with an empty body.
 ghost use Rattle.cron_schedule.specs.After.{TimesRise};
+ghost use Rattle.cron_schedule.specs.Grammar.{ReaderIsGrammar};
 ghost use Rattle.cron_schedule.specs.PlanDue.{TimeIsLeast, LeastIsTime};
 
 /// A time after a moment is later than it, and not above the last moment.
@@ -15,4 +16,9 @@ pub fn law_time_is_least()
 /// What is the least moment after a moment that is due is the time after it.
 pub fn law_least_is_time()
     ensures { LeastIsTime }
+{}
+
+/// What is read as an item of a field is what the grammar of items gives, and nothing else.
+pub fn law_reader_is_grammar()
+    ensures { ReaderIsGrammar }
 {}

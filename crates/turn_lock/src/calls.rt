@@ -16,6 +16,7 @@ use std::hint;
 use std::marker::Brand;
 use std::snapshot::Snapshot;
 use std::sync::Wait;
+use std::sync::atomic::{AtomicU64, Ordering};
 
 /// The parts of all seats of a lock, 2^63.
 const ALL_PARTS: u64 = 1 << 63;
@@ -28,7 +29,7 @@ const DRAWN: usize = 1;
 const SERVED: usize = 2;
 
 /// A seat looks again and again where this many turns are left at most, and else sleeps.
-const NEAR: u64 = 1;
+const NEAR: u64 = 3;
 
 /// How often it looks before it sleeps.
 const SPINS: u32 = 200;
@@ -57,7 +58,10 @@ impl<M: Machine> Shared<M> {
         let slots = one_slot(alloc, machine)?;
         match Table::new(alloc, &[0, 0, 0], slots, &first) {
             Ok((table, place)) => Ok((
-                Shared { table },
+                Shared {
+                    table,
+                    sleepers: AtomicU64::new(0),
+                },
                 Seat {
                     place,
                     parts: ALL_PARTS,
@@ -123,9 +127,11 @@ impl<M: Machine> Shared<M> {
                 return;
             }
             if ticket.wrapping_sub(served) > NEAR || !self.moves_on(served) {
+                self.sleepers.fetch_add(1, Ordering::SeqCst);
                 self.table
                     .shared
                     .park(rt, SERVED, (served & 0xffff_ffff) as u32);
+                self.sleepers.fetch_sub(1, Ordering::SeqCst);
             }
         }
         unreachable!()
@@ -212,8 +218,8 @@ impl<M: Machine> Shared<M> {
             .table
             .shared
             .exchange(place, 0, Some(Held { machine, entries }));
-        let served = self.table.shared.fetch_add::<Serve>(place, SERVED, 1);
-        if self.table.shared.peek(DRAWN) != served.wrapping_add(1) {
+        self.table.shared.fetch_add::<Serve>(place, SERVED, 1);
+        if self.sleepers.load(Ordering::SeqCst) != 0 {
             self.table.shared.wake_all(SERVED);
         }
     }

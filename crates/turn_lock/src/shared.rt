@@ -8,11 +8,14 @@ use atomic_table::Table;
 use std::alloc::Global;
 use std::marker::Model;
 use std::snapshot::Snapshot;
+use std::sync::atomic::AtomicU64;
 
 /// A machine that threads share. Contracts see which lock it is.
 #[derive(Drop)]
 pub struct Shared<M: Machine> {
     pub(crate) table: Table<Option<Held<M>>, ViewOf<M>, Snapshot<M>, Turns<M>, Global>,
+    /// How many seats sleep, or are about to.
+    pub(crate) sleepers: AtomicU64,
 }
 
 impl<M: Machine> Model for Shared<M> {

@@ -4,8 +4,8 @@ use Rattle.turn_lock.proofs.Asked.{may_serve}
 use Rattle.turn_lock.specs.Steps.{HoldsMachine}
 use Rattle.turn_lock.proofs.shared.Shared.leave.Goals as goal
 
-pub fetch_add-served-requires : goal.fetch_add-served-requires
-fetch_add-served-requires g c =
+pub fetch_add-requires : goal.fetch_add-requires
+fetch_add-requires g c =
     let e = c.exchange-none.ensures in (
       e.0 ∙ c.requires.here ∙ sym c.self.view_is,
       (let w = c.self.invariant.0 in omega arith),

@@ -27,14 +27,13 @@ use Rattle.line_grammar.specs.Numbers.{number_text, is_number_form}
 use Rattle.line_grammar.specs.Texts.{spelled, text_form, text_text, is_text_form}
 use Rattle.line_grammar.specs.Choices.{IsWord, are_apart}
 use Rattle.line_grammar.specs.Dashes.{number_form}
-use Rattle.line_grammar.specs.Lists.{count_form, IsTextList, IsNumberList}
-use Rattle.line_grammar.specs.Writing.{quoted, spaced_text, spaced_number, counted_texts, counted_numbers}
+use Rattle.line_grammar.specs.Writing.{quoted, spaced_number, counted_texts, counted_numbers}
 use Rattle.line_grammar.specs.Grammar.{Grammar, Gives, Number, Text, Choice, TextList, NumberList, Says}
 use Rattle.line_grammar.specs.Laws.{IsNumberOf, IsTextOf}
 use Rattle.line_grammar.proofs.Spellings.{text_list_said, text_list_found, number_list_said, number_list_found}
 use Rattle.script_text.specs.Words.{group_kind_at, schedule_kind_at, misfire_at, route_at, route_words, block_at}
-use Rattle.script_text.specs.Lines.{start_line, addgroup_line, addjob_line, startjob_line, scan_line, step_line, turn_line, other_words, behind, line, IsLine}
-use Rattle.script_text.specs.Spelling.{trigger_text, work_text, spec_text, event_words, spelling, IsBuiltKind, IsBuiltRoute, IsBuilt, IsMoment, IsId, WorkFits, SpecFits, GroupFits, IsWithin}
+use Rattle.script_text.specs.Lines.{start_line, addgroup_line, addjob_line, startjob_line, scan_line, step_line, turn_line, other_words, behind, IsLine}
+use Rattle.script_text.specs.Spelling.{spelling, IsBuiltKind, IsBuiltRoute, IsBuilt, IsMoment, IsId, SpecFits, GroupFits, IsWithin}
 
 abbrev E : Type 0
 E = ClusterEvent

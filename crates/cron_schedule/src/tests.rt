@@ -1,9 +1,13 @@
 //! The worked examples of schedules.
+ghost use Rattle.std.specs.Prelude.{◌≡◌, ◌<◌};
 
 use super::fault::ParseFault;
 use super::schedule::Schedule;
+use job_values::steps::Steps;
 use job_values::{Moment, Offset, ScheduleFault, ScheduleKind, Text};
 use std::alloc::Global;
+use std::marker::Brand;
+use std::sync::ledger::{Blank, Ledger};
 
 fn read(alloc: Global, kind: ScheduleKind, text: &str) -> Result<Schedule, ParseFault> {
     Schedule::parse(alloc, kind, &Text::copied(alloc, text)?)
@@ -139,6 +143,7 @@ fn faults(rt: HostRuntime) -> Result<(), ParseFault> {
         (ScheduleKind::Cron, "0 0 0 1,L * ?", 4, 9),
         (ScheduleKind::Cron, "0 0 0 ? * ? 2099 x", 8, 18),
         (ScheduleKind::Cron, "", 1, 1),
+        (ScheduleKind::Cron, "60 0 0 32 * ?", 1, 1),
         (ScheduleKind::Cron, "0 0 ", 3, 5),
         (ScheduleKind::Cron, "0 0 0 L,1 * ?", 4, 7),
         (ScheduleKind::Cron, "0 0 0 1, * ?", 4, 9),
@@ -160,4 +165,50 @@ fn faults(rt: HostRuntime) -> Result<(), ParseFault> {
         }
     }
     Ok(())
+}
+
+/// The weekday text of the table above, at its first time and beside it, and the days around.
+#[test]
+fn matches_and_days(rt: HostRuntime) -> Result<(), ParseFault> {
+    let schedule = read(rt.alloc(), ScheduleKind::Cron, "0 30 8 ? * MON-FRI")?;
+    let offset = Offset::new(28_800).expect(&rt, "an offset");
+    for (moment, due) in [
+        (1_717_374_600_000, true),
+        (1_717_374_600_500, false),
+        (1_717_374_601_000, false),
+        (1_717_201_800_000, false),
+    ] {
+        let moment = Moment::new(moment).expect(&rt, "a moment");
+        assert_eq!(rt; schedule.matches(moment, offset), due);
+    }
+    let start = Moment::new(1_717_200_000_000).expect(&rt, "a moment");
+    // 2024-06-01 was a Saturday, and 2024-06-03 the Monday after.
+    for (day, due) in [
+        (19_875, false),
+        (19_876, false),
+        (19_877, true),
+        (-1, false),
+        (47_482, false),
+    ] {
+        let (next, found) = counted::<Brand>(&schedule, start, offset, day, Blank::new(1));
+        assert_eq!(rt; next, 1_717_374_600_000);
+        assert_eq!(rt; found, due, "at {day}");
+    }
+    Ok(())
+}
+
+fn counted<L: Ledger>(
+    schedule: &Schedule,
+    t: Moment,
+    offset: Offset,
+    day: i32,
+    blank: Blank,
+) -> (u64, bool)
+    requires name { blank.name ≡ L.name }
+    requires parts { blank.parts ≡ L.parts }
+    requires some { 0 < L.parts }
+{
+    let mut steps = Steps::<L>::none(blank);
+    let due = schedule.test_day(day, &mut steps);
+    (number(schedule.after_counted(t, offset, &mut steps)), due)
 }

@@ -1,5 +1,5 @@
 -- What became of the tickets.
-use Rattle.std.specs.Prelude.{◌≡◌, ℕ, ◌+◌, List, [], ◌∷◌, ◌++◌, map, filter, Bool, true, false, Option, if◌then◌else◌}
+use Rattle.std.specs.Prelude.{◌≡◌, ℕ, ◌+◌, List, [], ◌++◌, map, filter, Bool, true, false, Option, if◌then◌else◌}
 use Rattle.job_values.specs.declared.cluster.ClusterEvent.{ClusterEvent}
 use Rattle.job_values.specs.declared.cluster.ClusterEvent.TheVariants.{ScanStep, Turn}
 use Rattle.cluster_history.specs.declared.ticket.Ticket.{Ticket}

@@ -1,5 +1,5 @@
 -- Who may scan while a scan is open.
-use Rattle.std.specs.Prelude.{◌≡◌, ℕ, Bool, false, Option, Some, None}
+use Rattle.std.specs.Prelude.{◌≡◌, ℕ, false, Option, Some, None}
 use Rattle.job_values.specs.declared.cluster.ClusterEvent.{ClusterEvent}
 use Rattle.job_values.specs.declared.cluster.ClusterEvent.TheVariants.{ScanBegin, ScanStep}
 use Rattle.job_values.specs.declared.cluster.ClusterReply.{ClusterReply}

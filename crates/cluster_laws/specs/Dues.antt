@@ -22,6 +22,7 @@ times_by case.Late due (Some put) = put ∷ due ∷ []
 abbrev pub times_of : Looked → List ℕ
 times_of look = times_by look.decision.case look.due look.decision.put
 
+-- the times of a look, before those that were there
 abbrev pub dues_looked : Option Looked → ℕ → ℕ → List ℕ → List ℕ
 dues_looked None job edition before = before
 dues_looked (Some look) job edition before =
@@ -49,11 +50,13 @@ pub record DueFiring : Type 0 where
   pub edition : ℕ
   pub due : ℕ
 
+-- a look that fires now fires for its due time
 abbrev pub fired_now : Option Looked → List DueFiring
 fired_now None = []
 fired_now (Some look) =
     if look.decision.fire_now then record { job = look.row.id; edition = look.row.edition; due = look.due } ∷ [] else []
 
+-- a ticket fires for its due time
 abbrev pub fired_for : Ticket → DueFiring
 fired_for ticket = record { job = ticket.job; edition = ticket.edition; due = ticket.due }
 
@@ -64,6 +67,7 @@ firings_of h (Turn admin at) =
     map fired_for (filter (λ ticket. is_some (job_with ticket.job (jobs_of h))) (taken admin (second_of at) (waiting h)))
 firings_of h _ = []
 
+-- whether a firing is of this job in this edition, for this due time
 abbrev pub is_for : ℕ → ℕ → ℕ → DueFiring → Bool
 is_for job edition due firing = ((job == firing.job) && (edition == firing.edition)) && (due == firing.due)
 
@@ -78,5 +82,6 @@ pub record DuesRise (h : History) (job edition : ℕ) : Type 0 where
   pub once : (due : ℕ) → times_fired h job edition due ≤ 1
   pub known : (due : ℕ) → times_fired h job edition due ≤ length (filter (λ time. due == time) (dues_of h job edition))
 
+-- so in every legal history
 abbrev pub EachDueOnce : Type 0
 EachDueOnce = (h : History) → IsLegal h → (job edition : ℕ) → DuesRise (accepted h) job edition

@@ -1,16 +1,12 @@
 -- What a look opens.
-use Rattle.std.proofs.Common.{◌≡◌, ℕ, ◌+◌, ◌<◌, ◌≤◌, List, [], ◌∷◌, ◌++◌, Bool, true, false, cond, length, map, refl, sym, ap, ◌∙◌, subst, arith}
+use Rattle.std.proofs.Common.{◌≡◌, ℕ, List, [], Bool, true, false, cond, length, refl, sym, ap, ◌∙◌}
 use Rattle.std.proofs.lemmas.List.FromFn.{length-map-range_with_len}
 use Rattle.job_values.specs.declared.words.TriggerKind.{TriggerKind}
-use Rattle.job_values.specs.declared.job.Opened.{Opened}
 use Rattle.job_records.specs.declared.job.Job.{Job}
 use Rattle.job_records.specs.declared.group.Group.{Group}
-use Rattle.job_records.specs.declared.log.Log.{Log}
 use Rattle.misfire_rules.specs.declared.decision.Decision.{Decision}
 use Rattle.cluster_history.specs.Groups.{group_with, addresses_in}
-use Rattle.cluster_history.specs.Firings.{Shot, shot_for, shots_by, shards, kind_of}
-use Rattle.cluster_history.specs.Logs.{placed_from, opened_of, log_of}
-use Rattle.cluster_history.specs.Replies.{queued_after}
+use Rattle.cluster_history.specs.Firings.{shot_for, shots_by, shards, kind_of}
 use Rattle.cluster_core.specs.Firing.{shots_decided}
 
 pub length-shots : (row : Job) (kind : TriggerKind) (time total : ℕ) → length (shots_by row kind time total) ≡ total

@@ -1,5 +1,5 @@
 -- What adding and starting a job change in the rows.
-use Rattle.std.proofs.Common.{◌≡◌, ℕ, ◌+◌, ◌<◌, ◌≤◌, List, [], ◌∷◌, ◌++◌, Bool, true, false, cond, eqb, Option, Some, None, Result, Ok, Err, is_some, nat_lt, length, map, set, refl, sym, ap, ◌∙◌, subst, arith}
+use Rattle.std.proofs.Common.{◌≡◌, ℕ, ◌+◌, ◌<◌, ◌≤◌, List, [], ◌∷◌, ◌++◌, Bool, true, false, cond, eqb, Option, Some, None, Ok, is_some, nat_lt, length, map, set, refl, sym, ap, ◌∙◌, subst, arith}
 use Rattle.std.specs.List.{slice_get}
 use Rattle.std.proofs.lemmas.Bool.Decides.{nat_tests}
 use Rattle.job_values.specs.declared.job.JobSpec.{JobSpec}
@@ -20,7 +20,7 @@ use Rattle.cluster_history.specs.Groups.{groups_of, group_with}
 use Rattle.cluster_history.specs.Replies.{reply_of, job_reply, schedule_reply, room_reply, running_reply, edition_reply, refused}
 use Rattle.cluster_core.specs.declared.jobs.Starting.{Starting}
 use Rattle.cluster_core.specs.Kept.{Kept, IsSound}
-use Rattle.cluster_core.specs.Stands.{Stands, StandsFor, Answered}
+use Rattle.cluster_core.specs.Stands.{StandsFor, Answered}
 use Rattle.cluster_core.specs.Starts.{StartsAt}
 use Rattle.cluster_core.specs.Changes.{started_row}
 

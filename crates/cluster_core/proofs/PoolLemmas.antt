@@ -1,13 +1,11 @@
 -- What is opened, and what the pools have by then.
-use Rattle.std.proofs.Common.{◌≡◌, ℕ, ◌+◌, ◌<◌, ◌≤◌, List, [], ◌∷◌, ◌++◌, Bool, true, false, cond, eqb, nat_lt, length, map, get_or, set, refl, sym, ap, ◌∙◌, subst, length-append, arith}
-use Rattle.std.specs.List.{filter}
+use Rattle.std.proofs.Common.{◌≡◌, ℕ, ◌+◌, ◌<◌, ◌≤◌, List, [], ◌∷◌, ◌++◌, Bool, true, false, cond, eqb, nat_lt, length, map, get_or, set, refl, sym, ap, ◌∙◌, length-append, arith}
 use Rattle.std.proofs.lemmas.Bool.Decides.{nat_tests}
 use Rattle.job_values.specs.declared.words.PoolAnswer.TheVariants.{Fast, Full}
-use Rattle.job_records.specs.declared.log.Log.{Log}
 use Rattle.cluster_history.specs.History.{History}
 use Rattle.cluster_history.specs.Nodes.{admins}
 use Rattle.cluster_history.specs.Firings.{Shot}
-use Rattle.cluster_history.specs.Logs.{Placed, placed_from, one_more, pool_of, added_of, is_added, behind, queue_of, last_log, logs_of, opened_logs, log_of}
+use Rattle.cluster_history.specs.Logs.{placed_from, one_more, added_of, behind, queue_of, last_log, logs_of, opened_logs, log_of}
 use Rattle.cluster_history.specs.Replies.{queued_after}
 use Rattle.cluster_core.specs.Kept.{Kept}
 use Rattle.cluster_core.specs.Stands.{Stands}

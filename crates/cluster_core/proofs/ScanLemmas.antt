@@ -1,16 +1,15 @@
 -- Beginning a scan.
-use Rattle.std.proofs.Common.{◌≡◌, ℕ, ◌+◌, ◌*◌, ◌<◌, List, [], ◌∷◌, Bool, true, false, Option, Some, None, length, map, get_or, refl, sym, ap, ◌∙◌, subst, arith}
+use Rattle.std.proofs.Common.{◌≡◌, ℕ, ◌<◌, List, true, Option, None, length, get_or, sym, ap, ◌∙◌}
 use Rattle.job_values.specs.declared.cluster.ClusterEvent.TheVariants.{ScanBegin}
-use Rattle.job_values.specs.declared.cluster.ClusterReply.{ClusterReply}
 use Rattle.job_values.specs.declared.cluster.ClusterReply.TheVariants.{Begun}
 use Rattle.cluster_history.specs.declared.scan.Scan.{Scan}
 use Rattle.cluster_history.specs.declared.scan.Seat.{Seat}
 use Rattle.cluster_history.specs.declared.settings.Settings.{Settings}
-use Rattle.cluster_history.specs.History.{History, After, accepted, settings_of}
+use Rattle.cluster_history.specs.History.{History, accepted, settings_of}
 use Rattle.cluster_history.specs.Nodes.{runs}
 use Rattle.cluster_history.specs.Pages.{page_in, page_limit, begun}
-use Rattle.cluster_history.specs.Jobs.{jobs_of, scan_of, page_of}
-use Rattle.cluster_history.specs.Replies.{reply_of, if_running, begin_reply}
+use Rattle.cluster_history.specs.Jobs.{scan_of, page_of}
+use Rattle.cluster_history.specs.Replies.{if_running, begin_reply}
 use Rattle.cluster_core.specs.Kept.{Kept}
 use Rattle.cluster_core.specs.Stands.{Stands, StandsFor, Answered}
 use Rattle.cluster_core.proofs.AdminLemmas.{at-admin}

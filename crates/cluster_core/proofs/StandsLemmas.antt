@@ -1,5 +1,5 @@
 -- What keeps a cluster standing for its history.
-use Rattle.std.proofs.Common.{◌≡◌, ℕ, ◌+◌, ◌<◌, List, [], ◌∷◌, ◌++◌, Bool, true, false, cond, eqb, length, map, get_or, set, refl, sym, ap, ◌∙◌, arith}
+use Rattle.std.proofs.Common.{◌≡◌, ℕ, ◌<◌, List, [], Bool, true, false, cond, eqb, length, get_or, set, refl, sym, ap, ◌∙◌}
 use Rattle.job_values.specs.declared.cluster.ClusterEvent.{ClusterEvent}
 use Rattle.job_values.specs.declared.cluster.ClusterEvent.TheVariants.{NodeStart}
 use Rattle.job_values.specs.declared.cluster.ClusterRefusal.{ClusterRefusal}

@@ -1,5 +1,5 @@
 -- A step of a scan.
-use Rattle.std.proofs.Common.{◌≡◌, ℕ, ◌+◌, ◌<◌, ◌≤◌, ℤ, List, [], ◌∷◌, ◌++◌, Bool, true, false, cond, eqb, nat_lt, Option, Some, None, is_some, length, map, get_or, set, refl, sym, ap, ◌∙◌, subst, append-nil, arith}
+use Rattle.std.proofs.Common.{◌≡◌, ℕ, ◌+◌, ◌<◌, ◌≤◌, List, [], ◌++◌, Bool, true, false, cond, eqb, nat_lt, Option, Some, None, length, map, get_or, set, refl, sym, ap, ◌∙◌, subst, append-nil, arith}
 use Rattle.std.specs.List.{slice_get}
 use Rattle.std.proofs.lemmas.Bool.Decides.{nat_tests}
 use Rattle.std.proofs.lemmas.List.{set-get_or}
@@ -14,7 +14,7 @@ use Rattle.job_records.proofs.RowLemmas.{rises-from_rising, changed-at}
 use Rattle.cluster_history.specs.declared.scan.Scan.{Scan}
 use Rattle.cluster_history.specs.declared.ticket.Ticket.{Ticket}
 use Rattle.cluster_history.specs.declared.settings.Settings.{Settings}
-use Rattle.cluster_history.specs.History.{History, After, accepted, settings_of}
+use Rattle.cluster_history.specs.History.{History, After, accepted}
 use Rattle.cluster_history.specs.Nodes.{runs}
 use Rattle.cluster_history.specs.Groups.{groups_of}
 use Rattle.cluster_history.specs.Pages.{stepped}
@@ -22,8 +22,8 @@ use Rattle.cluster_history.specs.Looks.{Looked, look_in, look_seat, next_looked}
 use Rattle.cluster_history.specs.Jobs.{jobs_of, ids_of, row_of, row_by, last_job, spec_of, edition_of, next_of, scan_of, look_of}
 use Rattle.cluster_history.specs.Tickets.{put_behind, waiting}
 use Rattle.cluster_history.specs.Firings.{Shot, shots_stepped, shots_scanned}
-use Rattle.cluster_history.specs.Logs.{last_log, queue_of, logs_of, log_of, opened_of, placed_from}
-use Rattle.cluster_history.specs.Replies.{reply_of, if_running, step_reply, seat_reply, look_reply, if_ids, queued_after, refused}
+use Rattle.cluster_history.specs.Logs.{last_log, queue_of, log_of, opened_of, placed_from}
+use Rattle.cluster_history.specs.Replies.{if_running, step_reply, seat_reply, look_reply, queued_after, refused}
 use Rattle.cluster_core.specs.declared.pages.Sitting.{Sitting}
 use Rattle.cluster_core.specs.declared.looks.Look.{Look}
 use Rattle.cluster_core.specs.declared.scans.Fired.{Fired}
@@ -31,7 +31,7 @@ use Rattle.cluster_core.specs.Kept.{Kept, IsSound}
 use Rattle.cluster_core.specs.Changes.{with_next}
 use Rattle.cluster_core.specs.Stands.{Stands, StandsFor, Answered}
 use Rattle.cluster_core.specs.Steps.{SitsAt, LooksAt}
-use Rattle.cluster_core.specs.Firing.{Opens, FiresAs, shots_decided}
+use Rattle.cluster_core.specs.Firing.{Opens, shots_decided}
 use Rattle.cluster_core.proofs.JobLemmas.{rows-changed}
 use Rattle.cluster_core.proofs.ScanLemmas.{is-running}
 use Rattle.cluster_core.proofs.PoolLemmas.{kept-queue, queues-after, logs-after}

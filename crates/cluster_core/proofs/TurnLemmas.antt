@@ -1,5 +1,5 @@
 -- A turn of a ring.
-use Rattle.std.proofs.Common.{◌≡◌, ℕ, zero, suc, ◌+◌, ◌/◌, ◌<◌, ◌≤◌, List, [], ◌∷◌, ◌++◌, Bool, true, false, cond, nat_lt, Option, Some, None, length, map, get_or, set, take, drop, refl, sym, ap, ◌∙◌, subst, append_assoc, append-nil, length-append, arith}
+use Rattle.std.proofs.Common.{◌≡◌, ℕ, zero, suc, ◌+◌, ◌<◌, ◌≤◌, List, [], ◌∷◌, ◌++◌, true, false, cond, nat_lt, Some, length, map, get_or, set, take, refl, sym, ap, ◌∙◌, subst, append_assoc, append-nil, length-append, arith}
 use Rattle.std.proofs.lemmas.Bool.Decides.{nat_tests}
 use Rattle.std.proofs.lemmas.List.{take_more}
 use Rattle.job_values.specs.declared.words.TriggerKind.TheVariants as kind
@@ -11,18 +11,17 @@ use Rattle.job_records.specs.declared.job.Job.{Job}
 use Rattle.job_records.specs.declared.group.Group.{Group}
 use Rattle.job_records.specs.declared.log.Log.{Log}
 use Rattle.cluster_history.specs.declared.ticket.Ticket.{Ticket}
-use Rattle.cluster_history.specs.History.{History, After, accepted}
-use Rattle.cluster_history.specs.Nodes.{runs}
+use Rattle.cluster_history.specs.History.{History, accepted}
 use Rattle.cluster_history.specs.Groups.{groups_of, group_with, addresses_in}
 use Rattle.cluster_history.specs.Looks.{job_with}
 use Rattle.cluster_history.specs.Jobs.{jobs_of}
 use Rattle.cluster_history.specs.Tickets.{waiting, taken, left, second_of}
 use Rattle.cluster_history.specs.Firings.{Shot, shots_by, shots_if, shots_taken, shots_for, shots_turned, shards}
-use Rattle.cluster_history.specs.Logs.{placed_from, one_more, pool_of, last_log, queue_of, log_of, opened_of}
-use Rattle.cluster_history.specs.Replies.{reply_of, if_running, if_ids, queued_after, fired_by, fired_from, refused}
+use Rattle.cluster_history.specs.Logs.{placed_from, one_more, pool_of, last_log, queue_of, log_of}
+use Rattle.cluster_history.specs.Replies.{if_running, if_ids, queued_after, fired_by, fired_from, refused}
 use Rattle.cluster_core.specs.declared.opening.Openings.{Openings}
 use Rattle.cluster_core.specs.declared.turns.Turned.{Turned}
-use Rattle.cluster_core.specs.Kept.{Kept, IsSound}
+use Rattle.cluster_core.specs.Kept.{Kept}
 use Rattle.cluster_core.specs.Stands.{Stands, StandsFor, Answered}
 use Rattle.cluster_core.specs.Turning.{OpensBehind, FiresBehind}
 use Rattle.cluster_core.proofs.ScanLemmas.{is-running}

@@ -1,5 +1,5 @@
 -- When a cluster stands for a history, and when it answers an event.
-use Rattle.std.specs.Prelude.{◌≡◌, ℕ, List, [], ◌∷◌, map, length, Option, Some, None}
+use Rattle.std.specs.Prelude.{◌≡◌, ℕ, List, map, length, Option, Some, None}
 use Rattle.job_values.specs.declared.cluster.ClusterEvent.{ClusterEvent}
 use Rattle.job_values.specs.declared.cluster.ClusterReply.{ClusterReply}
 use Rattle.cluster_history.specs.declared.scan.Scan.{Scan}
@@ -10,7 +10,7 @@ use Rattle.cluster_history.specs.Jobs.{jobs_of, last_job, scan_of}
 use Rattle.cluster_history.specs.Tickets.{waiting}
 use Rattle.cluster_history.specs.Logs.{logs_of, last_log, queue_of}
 use Rattle.cluster_history.specs.Replies.{reply_of}
-use Rattle.cluster_history.specs.Runs.{run, replies}
+use Rattle.cluster_history.specs.Runs.{run}
 use Rattle.cluster_core.specs.Kept.{Kept}
 
 -- each kept part is what the accepted entries give
@@ -27,6 +27,7 @@ pub record Stands (kept : Kept) (h : History) : Type 0 where
   pub last_job : kept.last_job ≡ last_job h
   pub last_log : kept.last_log ≡ last_log h
 
+-- the same of a history with its refused entries
 abbrev pub StandsFor : Kept → History → Type 0
 StandsFor kept h = Stands kept (accepted h)
 

@@ -1,11 +1,11 @@
 -- What a step of the scan finds.
-use Rattle.std.specs.Prelude.{◌≡◌, ℕ, ◌==◌, ℤ, List, Bool, true, slice_get, Option, Some, None}
+use Rattle.std.specs.Prelude.{◌≡◌, ℕ, ◌==◌, ℤ, List, true, slice_get, Option, Some}
 use Rattle.job_records.specs.declared.job.Job.{Job}
 use Rattle.cluster_history.specs.declared.scan.Scan.{Scan}
 use Rattle.cluster_history.specs.declared.scan.Seat.{Seat}
 use Rattle.job_values.specs.declared.cluster.ClusterRefusal.TheVariants.{NotScanning}
 use Rattle.cluster_history.specs.Firings.{Shot}
-use Rattle.cluster_history.specs.Looks.{Looked, job_with, look_seat}
+use Rattle.cluster_history.specs.Looks.{Looked, look_seat}
 use Rattle.cluster_history.specs.Replies.{step_reply, refused}
 use Rattle.cluster_core.specs.declared.pages.Sitting.{Sitting}
 use Rattle.cluster_core.specs.declared.looks.Look.{Look}

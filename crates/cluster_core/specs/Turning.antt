@@ -1,5 +1,5 @@
 -- What a turn opened.
-use Rattle.std.specs.Prelude.{◌≡◌, ℕ, ◌+◌, ◌<◌, ◌≤◌, List, ◌++◌, map, length, Bool, true, false, Option, Some, None}
+use Rattle.std.specs.Prelude.{◌≡◌, ◌+◌, ◌<◌, ◌≤◌, List, ◌++◌, map, length, Bool, true, false, Option, Some, None}
 use Rattle.job_values.specs.declared.numbers.TheConstants.{LAST_LOG_ID}
 use Rattle.job_values.specs.declared.job.Opened.{Opened}
 use Rattle.job_values.specs.declared.job.FiredTicket.{FiredTicket}

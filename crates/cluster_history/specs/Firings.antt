@@ -30,6 +30,7 @@ abbrev pub shards : Route → List (List ℕ) → ℕ
 shards ShardingBroadcast addresses = max 1 (length addresses)
 shards _ addresses = 1
 
+-- the log of one shard
 abbrev pub shot_for : Job → TriggerKind → ℕ → ℕ → ℕ → Shot
 shot_for row kind time total index = record { row = row; kind = kind; time = time; index = index; total = total }
 
@@ -47,6 +48,7 @@ abbrev pub shots_if : List Group → TriggerKind → ℕ → Option Job → List
 shots_if groups kind time None = []
 shots_if groups kind time (Some row) = shots_of groups kind time row
 
+-- why a look that fires does so
 abbrev pub kind_of : Case → TriggerKind
 kind_of case.Misfire = kind.Misfire
 kind_of case.Late = kind.Cron
@@ -58,6 +60,7 @@ shots_looked groups time None = []
 shots_looked groups time (Some look) =
     if look.decision.fire_now then shots_of groups (kind_of look.decision.case) time look.row else []
 
+-- the same at the moment of the open scan
 abbrev pub shots_scanned : List Group → Option Scan → Option Looked → List Shot
 shots_scanned groups None look = []
 shots_scanned groups (Some scan) look = shots_looked groups scan.at look

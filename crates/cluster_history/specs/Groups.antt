@@ -18,6 +18,7 @@ groups_of (After h (AddGroup app kind addresses) r) =
     groups_of h ++ record { id = last_group h + 1; app = app; kind = kind; addresses = addresses } ∷ []
 groups_of (After h _ r) = groups_of h
 
+-- the group with this id, if it is there
 abbrev pub group_with : ℕ → List Group → Option Group
 group_with id groups = row_with (λ group. group.id) id groups
 

@@ -20,14 +20,17 @@ pub record Opening : Type 0 where
   pub last_job : ℕ
   pub last_log : ℕ
 
+-- an opening, or a history with one entry more
 pub data History : Type 0 where
   Begin : Opening → History
   After : History → ClusterEvent → ClusterReply → History
 
+-- whether a reply refuses its event
 abbrev pub is_refusal : ClusterReply → Bool
 is_refusal (Refused why) = true
 is_refusal _ = false
 
+-- a history with an entry, unless it was refused
 abbrev pub with_entry : Bool → History → ClusterEvent → ClusterReply → History
 with_entry true h e r = h
 with_entry false h e r = After h e r

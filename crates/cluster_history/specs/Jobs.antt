@@ -35,9 +35,11 @@ ids_of (After h _ r) = ids_of h
 abbrev pub no_spec : JobSpec
 no_spec = record { group = 0; kind = kind.Never; schedule = []; misfire = DoNothing; route = First; block = SerialExecution; handler = []; param = []; timeout = 0; retries = 0; children = [] }
 
+-- the row that stands for it
 abbrev pub no_job : Job
 no_job = record { id = 0; spec = no_spec; schedule = Never; running = false; edition = 0; next = None }
 
+-- the row of a job in the opening
 abbrev pub opened_row : Opening → ℕ → Job
 opened_row o j = unwrap_or (job_with j o.jobs) no_job
 
@@ -54,6 +56,7 @@ edition_of (After h (AddJob spec) r) j = if j == last_job h + 1 then 0 else edit
 edition_of (After h (StartJob at job) r) j = if j == job then edition_of h j + 1 else edition_of h j
 edition_of (After h _ r) j = edition_of h j
 
+-- what a text says as a schedule; with a fault, never
 abbrev pub plan_said : Result Plan ScheduleFault → Plan
 plan_said (Ok plan) = plan
 plan_said (Err fault) = Never

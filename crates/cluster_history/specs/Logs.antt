@@ -20,6 +20,7 @@ pub record Placed : Type 0 where
 abbrev pub pool_of : ℕ → PoolAnswer
 pool_of queued = if nat_lt queued MOST_FAST then Fast else Full
 
+-- how many logs it has then
 abbrev pub one_more : ℕ → ℕ
 one_more queued = if nat_lt queued MOST_FAST then queued + 1 else queued
 
@@ -29,9 +30,11 @@ placed_from last queued [] = []
 placed_from last queued (shot ∷ shots) =
     record { shot = shot; log = last + 1; pool = pool_of queued } ∷ placed_from (last + 1) (one_more queued) shots
 
+-- what a reply tells of an opened log
 abbrev pub opened_of : Placed → Opened
 opened_of placed = record { log = placed.log; pool = placed.pool }
 
+-- the trigger code of a new log: 500 where the pool was full
 abbrev pub opened_code : PoolAnswer → ℤ
 opened_code Full = FULL_CODE
 opened_code _ = pos 0
@@ -60,6 +63,7 @@ log_of placed = record {
   marked = false;
 }
 
+-- whether the log was put in a pool
 abbrev pub is_added : PoolAnswer → Bool
 is_added Full = false
 is_added _ = true
@@ -104,5 +108,6 @@ is_failed log =
     not ((int_eq log.trigger_code (pos 0) || int_eq log.trigger_code SUCCESS) && int_eq log.result_code (pos 0))
     && not (int_eq log.result_code SUCCESS)
 
+-- a log is settled where it has a result
 abbrev pub is_settled : Log → Bool
 is_settled log = not (int_eq log.result_code (pos 0))

@@ -13,9 +13,11 @@ pub record Looked : Type 0 where
   pub due : ℕ
   pub decision : Decision
 
+-- the row of the job with this id, if it is there
 abbrev pub job_with : ℕ → List Job → Option Job
 job_with id jobs = row_with (λ job. job.id) id jobs
 
+-- a stopped job has no due time and is not looked at
 abbrev pub look_due : ℤ → ℕ → Job → Option ℕ → Option Looked
 look_due offset at row None = None
 look_due offset at row (Some due) =
@@ -26,6 +28,7 @@ abbrev pub look_row : ℤ → ℕ → ℕ → Option Job → Option Looked
 look_row offset at edition None = None
 look_row offset at edition (Some row) = if row.edition == edition then look_due offset at row row.next else None
 
+-- the look at the seat of a page, if there is one
 abbrev pub look_seat : ℤ → ℕ → List Job → Option Seat → Option Looked
 look_seat offset at jobs None = None
 look_seat offset at jobs (Some seat) = look_row offset at seat.edition (job_with seat.job jobs)

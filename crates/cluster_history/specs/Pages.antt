@@ -6,10 +6,12 @@ use Rattle.cluster_history.specs.declared.settings.Settings.{Settings}
 use Rattle.cluster_history.specs.declared.scan.Scan.{Scan}
 use Rattle.cluster_history.specs.declared.scan.Seat.{Seat}
 
+-- whether a next time comes up to a bound
 abbrev pub is_due_by : ℕ → Option ℕ → Bool
 is_due_by bound None = false
 is_due_by bound (Some next) = nat_le next bound
 
+-- a job and its edition
 abbrev pub seat_of : Job → Seat
 seat_of job = record { job = job.id; edition = job.edition }
 
@@ -33,6 +35,7 @@ one_step scan =
     then Some (record { owner = scan.owner; at = scan.at; page = scan.page; steps = scan.steps + 1 })
     else None
 
+-- the open scan after a step
 abbrev pub stepped : Option Scan → Option Scan
 stepped None = None
 stepped (Some scan) = one_step scan

@@ -26,6 +26,7 @@ use Rattle.cluster_history.specs.Tickets.{waiting, taken, second_of}
 use Rattle.cluster_history.specs.Firings.{Shot, shots_stepped, shots_turned, shots_taken}
 use Rattle.cluster_history.specs.Logs.{last_log, queue_of, placed_from, opened_of, one_more}
 
+-- the reply that refuses
 abbrev pub refused : ClusterRefusal → ClusterReply
 refused why = reply.Refused why
 
@@ -34,6 +35,7 @@ abbrev pub if_running : Bool → ℕ → ClusterReply → ClusterReply
 if_running true admin answer = answer
 if_running false admin answer = refused (NodeStopped admin)
 
+-- by whether the admin runs
 abbrev pub start_reply : Bool → ℕ → ClusterReply
 start_reply true admin = refused (NodeRunning admin)
 start_reply false admin = reply.Done
@@ -89,6 +91,7 @@ look_reply last queued shots job (Some look) =
     if_ids last (length shots) (reply.Look job look.decision.case look.due look.decision.next look.decision.put
     (map opened_of (placed_from last queued shots)))
 
+-- by the seat that the step is at
 abbrev pub seat_reply : ℕ → ℕ → List Shot → Option Looked → Option Seat → ClusterReply
 seat_reply last queued shots look None = refused NotScanning
 seat_reply last queued shots look (Some seat) = look_reply last queued shots seat.job look
@@ -106,6 +109,7 @@ abbrev pub queued_after : ℕ → List Shot → ℕ
 queued_after queued [] = queued
 queued_after queued (shot ∷ shots) = queued_after (one_more queued) shots
 
+-- what is told of a ticket that fired
 abbrev pub fired_by : Ticket → ℕ → ℕ → List Shot → FiredTicket
 fired_by ticket last queued shots = record {
   job = ticket.job;

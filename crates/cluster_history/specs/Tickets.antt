@@ -19,10 +19,11 @@ slot_of due = second_of due % SLOTS
 abbrev pub is_in_slot : ℕ → ℕ → Ticket → Bool
 is_in_slot admin slot ticket = (ticket.admin == admin) && (slot_of ticket.due == slot)
 
--- the slot of a second, and the one before it
+-- the slot of a second
 abbrev pub present_slot : ℕ → ℕ
 present_slot second = second % SLOTS
 
+-- the slot of the second before it
 abbrev pub past_slot : ℕ → ℕ
 past_slot second = (second + 59) % SLOTS
 

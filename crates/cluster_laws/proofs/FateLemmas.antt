@@ -1,14 +1,13 @@
 -- The tickets that wait are those whose fate is not decided.
 use Rattle.std.proofs.Common.{◌≡◌, ℕ, ◌+◌, List, [], ◌∷◌, ◌++◌, Bool, true, false, cond, Option, Some, None, map, not, refl, sym, ap, ◌∙◌, append-nil}
-use Rattle.std.specs.List.{filter}
 use Rattle.job_values.specs.declared.cluster.ClusterEvent.{ClusterEvent}
 use Rattle.job_values.specs.declared.cluster.ClusterEvent.TheVariants.{NodeStart, AddGroup, AddJob, StartJob, ScanBegin, ScanStep, Turn}
 use Rattle.cluster_history.specs.declared.ticket.Ticket.{Ticket}
-use Rattle.cluster_history.specs.History.{History, Begin, After}
+use Rattle.cluster_history.specs.History.{Begin, After}
 use Rattle.cluster_history.specs.Looks.{Looked}
 use Rattle.cluster_history.specs.Jobs.{look_of}
 use Rattle.cluster_history.specs.Tickets.{waiting, is_taken, second_of, left, put_behind, put_due}
-use Rattle.cluster_laws.specs.Fates.{Fate, Waiting, Taken, Put, places, fate_at, fate_after, aged, put_new, puts_new, puts_of, waits, waiting_in, WaitingByFate}
+use Rattle.cluster_laws.specs.Fates.{Fate, Waiting, Taken, Put, places, fate_at, fate_after, aged, put_new, puts_of, waiting_in, WaitingByFate}
 
 -- a ticket that waits is seen, one that was taken is not
 abbrev seen : Fate → Ticket → List Ticket → List Ticket

@@ -1,3 +1,5 @@
 pub mod MomentLemmas
 pub mod FateLemmas
 pub mod OwnerLemmas
+pub mod RiseLemmas
+pub mod OnceLemmas

@@ -1,5 +1,5 @@
 -- The next time is the carried first time.
-use Rattle.std.proofs.Common.{◌≡◌, ℕ, ◌+◌, ℤ, List, [], ◌∷◌, Bool, true, false, cond, eqb, Option, Some, None, map, refl, sym, ap, ◌∙◌, subst, arith}
+use Rattle.std.proofs.Common.{◌≡◌, ℕ, ◌+◌, List, [], ◌∷◌, Bool, true, false, cond, eqb, Option, Some, None, map, refl, sym, ap, ◌∙◌, subst, arith}
 use Rattle.std.specs.List.{slice_get}
 use Rattle.std.proofs.lemmas.Bool.Decides.{nat_tests}
 use Rattle.job_values.specs.declared.cluster.ClusterEvent.TheVariants.{NodeStart, AddGroup, AddJob, StartJob, ScanBegin, ScanStep, Turn}
@@ -12,9 +12,9 @@ use Rattle.cluster_history.specs.declared.scan.Seat.{Seat}
 use Rattle.cluster_history.specs.History.{History, Begin, After, settings_of}
 use Rattle.cluster_history.specs.Looks.{Looked, look_in, look_seat, look_row, look_due, next_looked, job_with}
 use Rattle.cluster_history.specs.Jobs.{last_job, ids_of, jobs_of, row_of, spec_of, plan_of, next_of, scan_of, look_of, first_time}
-use Rattle.cluster_laws.specs.Moments.{moment_added, moments_looked, moments_of, first_of, carried_once, carried, NextTimesCarried}
+use Rattle.cluster_laws.specs.Moments.{moments_looked, moments_of, first_of, carried_once, carried, NextTimesCarried}
 
-some-same : {X : Type 0} (x y : X) → Some x ≡ Some y → x ≡ y
+pub some-same : {X : Type 0} (x y : X) → Some x ≡ Some y → x ≡ y
 some-same x y e = (cc)
 
 found-here : (h : History) (job j : ℕ) (rest : Option Job) (row : Job) (b : Bool) → eqb j job ≡ b → (rest ≡ Some row → row ≡ row_of h job) → cond b (Some (row_of h j)) rest ≡ Some row → row ≡ row_of h job
@@ -24,15 +24,15 @@ found-here h job j rest row true test later e =
     sym here ∙ ap (row_of h) same
 found-here h job j rest row false test later e = later e
 
-row-found : (h : History) (job : ℕ) (ids : List ℕ) (row : Job) → job_with job (map (row_of h) ids) ≡ Some row → row ≡ row_of h job
+pub row-found : (h : History) (job : ℕ) (ids : List ℕ) (row : Job) → job_with job (map (row_of h) ids) ≡ Some row → row ≡ row_of h job
 row-found h job [] row e = (cc)
 row-found h job (j ∷ ids) row e = found-here h job j (job_with job (map (row_of h) ids)) row (eqb j job) refl (row-found h job ids row) e
 
 -- a look is at the row of its job, and decides what is due by this row at the scan's moment
-record LooksRight (h : History) (scan : Scan) (look : Looked) : Type 0 where
-  row : look.row ≡ row_of h look.row.id
-  due : next_of h look.row.id ≡ Some look.due
-  decision : look.decision ≡ decided look.due look.row.schedule look.row.spec.misfire (settings_of h).offset scan.at
+pub record LooksRight (h : History) (scan : Scan) (look : Looked) : Type 0 where
+  pub row : look.row ≡ row_of h look.row.id
+  pub due : next_of h look.row.id ≡ Some look.due
+  pub decision : look.decision ≡ decided look.due look.row.schedule look.row.spec.misfire (settings_of h).offset scan.at
 
 due-right : (h : History) (scan : Scan) (row : Job) (next : Option ℕ) (look : Looked) → row ≡ row_of h row.id → row.next ≡ next → look_due (settings_of h).offset scan.at row next ≡ Some look → LooksRight h scan look
 due-right h scan row None look is at e = (cc)
@@ -52,7 +52,7 @@ row-right h scan seat (Some row) look at e =
     let same : row.id ≡ seat.job = ap (λ (r : Job). r.id) is in
     edition-right h scan row (eqb row.edition seat.edition) look (is ∙ ap (row_of h) (sym same)) e
 
-seat-right : (h : History) (scan : Scan) (seat : Option Seat) (look : Looked) → look_seat (settings_of h).offset scan.at (jobs_of h) seat ≡ Some look → LooksRight h scan look
+pub seat-right : (h : History) (scan : Scan) (seat : Option Seat) (look : Looked) → look_seat (settings_of h).offset scan.at (jobs_of h) seat ≡ Some look → LooksRight h scan look
 seat-right h scan None look e = (cc)
 seat-right h scan (Some seat) look e = row-right h scan seat (job_with seat.job (jobs_of h)) look refl e
 

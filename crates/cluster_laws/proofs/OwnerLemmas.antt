@@ -1,21 +1,20 @@
 -- Who may scan while a scan is open.
-use Rattle.std.proofs.Common.{◌≡◌, ℕ, List, Bool, true, false, cond, eqb, Option, Some, None, refl, sym, ap, ◌∙◌, subst, arith}
+use Rattle.std.proofs.Common.{◌≡◌, ℕ, List, Bool, true, false, cond, eqb, Option, Some, None, refl, sym, ap, ◌∙◌, arith}
 use Rattle.std.specs.List.{slice_get}
 use Rattle.std.proofs.lemmas.Bool.Decides.{nat_tests}
-use Rattle.job_values.specs.declared.cluster.ClusterEvent.{ClusterEvent}
 use Rattle.job_values.specs.declared.cluster.ClusterEvent.TheVariants.{NodeStart, AddGroup, AddJob, StartJob, ScanBegin, ScanStep, Turn}
 use Rattle.job_values.specs.declared.cluster.ClusterReply.{ClusterReply}
 use Rattle.job_values.specs.declared.cluster.ClusterRefusal.TheVariants.{NotScanning}
 use Rattle.cluster_history.specs.declared.scan.Scan.{Scan}
 use Rattle.cluster_history.specs.declared.scan.Seat.{Seat}
-use Rattle.cluster_history.specs.History.{History, Begin, After, accepted, is_refusal}
+use Rattle.cluster_history.specs.History.{accepted, is_refusal}
 use Rattle.cluster_history.specs.Nodes.{runs}
 use Rattle.cluster_history.specs.Looks.{Looked}
 use Rattle.cluster_history.specs.Jobs.{scan_of, look_of, page_of}
 use Rattle.cluster_history.specs.Firings.{Shot, shots_stepped}
-use Rattle.cluster_history.specs.Logs.{last_log, queue_of}
+use Rattle.cluster_history.specs.Logs.{last_log}
 use Rattle.cluster_history.specs.Replies.{reply_of, if_running, begin_reply, step_reply, seat_reply, refused}
-use Rattle.cluster_laws.specs.Owners.{owner_in, IsOwners, OneScan}
+use Rattle.cluster_laws.specs.Owners.{owner_in, OneScan}
 
 begin-refused : (b : Bool) (admin owner : ℕ) (scan : Option Scan) (page : List Seat) → owner_in scan ≡ Some owner → is_refusal (if_running b admin (begin_reply scan page)) ≡ true
 begin-refused false admin owner scan page e = refl

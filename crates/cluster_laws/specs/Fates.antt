@@ -1,5 +1,5 @@
 -- What became of the tickets.
-use Rattle.std.specs.Prelude.{◌≡◌, ℕ, ◌+◌, List, [], ◌∷◌, ◌++◌, map, filter, Bool, true, false, Option, if◌then◌else◌}
+use Rattle.std.specs.Prelude.{◌≡◌, ℕ, ◌+◌, List, [], ◌++◌, map, filter, Bool, true, false, Option, if◌then◌else◌}
 use Rattle.job_values.specs.declared.cluster.ClusterEvent.{ClusterEvent}
 use Rattle.job_values.specs.declared.cluster.ClusterEvent.TheVariants.{ScanStep, Turn}
 use Rattle.cluster_history.specs.declared.ticket.Ticket.{Ticket}
@@ -34,9 +34,11 @@ abbrev pub fate_after : ClusterEvent → ℕ → Ticket → Fate → Fate
 fate_after e place ticket Waiting = fate_at e place ticket
 fate_after e place ticket (Taken p) = Taken p
 
+-- a ticket after one entry more
 abbrev pub aged : ClusterEvent → ℕ → Put → Put
 aged e place put = record { place = put.place; ticket = put.ticket; fate = fate_after e place put.ticket put.fate }
 
+-- a ticket that is put waits
 abbrev pub put_new : ℕ → Ticket → Put
 put_new place ticket = record { place = place; ticket = ticket; fate = Waiting }
 
@@ -50,6 +52,7 @@ abbrev pub puts_of : History → List Put
 puts_of (Begin o) = []
 puts_of (After h e r) = map (aged e (places h + 1)) (puts_of h) ++ puts_new e (places h + 1) (look_of h)
 
+-- whether nothing ended its waiting yet
 abbrev pub waits : Fate → Bool
 waits Waiting = true
 waits (Taken p) = false
@@ -58,5 +61,6 @@ waits (Taken p) = false
 abbrev pub waiting_in : List Put → List Ticket
 waiting_in puts = map (λ put. put.ticket) (filter (λ put. waits put.fate) puts)
 
+-- so after every history
 abbrev pub WaitingByFate : Type 0
 WaitingByFate = (h : History) → waiting h ≡ waiting_in (puts_of h)

@@ -1,3 +1,4 @@
 pub mod Moments
 pub mod Fates
 pub mod Owners
+pub mod Dues

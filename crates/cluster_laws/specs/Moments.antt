@@ -8,10 +8,12 @@ use Rattle.cluster_history.specs.History.{History, Begin, After, settings_of}
 use Rattle.cluster_history.specs.Looks.{Looked}
 use Rattle.cluster_history.specs.Jobs.{last_job, spec_of, plan_of, next_of, scan_of, look_of, opened_row, first_time}
 
+-- one moment more
 abbrev pub moment_added : Option Scan → List ℕ → List ℕ
 moment_added None before = before
 moment_added (Some scan) before = scan.at ∷ before
 
+-- a look adds the moment of its scan to those of its job
 abbrev pub moments_looked : Option Scan → Option Looked → ℕ → List ℕ → List ℕ
 moments_looked scan None j before = before
 moments_looked scan (Some look) j before = if j == look.row.id then moment_added scan before else before
@@ -42,6 +44,7 @@ abbrev pub carried : ℤ → JobSpec → Option ℕ → List ℕ → Option ℕ
 carried offset spec first [] = first
 carried offset spec first (at ∷ earlier) = carried_once offset spec at (carried offset spec first earlier)
 
+-- the next time of a job is its first time, carried over the scans that looked at it
 abbrev pub NextTimesCarried : Type 0
 NextTimesCarried =
     (h : History) (j : ℕ) → next_of h j ≡ carried (settings_of h).offset (spec_of h j) (first_of h j) (moments_of h j)

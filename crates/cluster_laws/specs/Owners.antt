@@ -1,5 +1,5 @@
 -- Who may scan while a scan is open.
-use Rattle.std.specs.Prelude.{◌≡◌, ℕ, Bool, false, Option, Some, None}
+use Rattle.std.specs.Prelude.{◌≡◌, ℕ, false, Option, Some, None}
 use Rattle.job_values.specs.declared.cluster.ClusterEvent.{ClusterEvent}
 use Rattle.job_values.specs.declared.cluster.ClusterEvent.TheVariants.{ScanBegin, ScanStep}
 use Rattle.job_values.specs.declared.cluster.ClusterReply.{ClusterReply}
@@ -8,6 +8,7 @@ use Rattle.cluster_history.specs.History.{History, After, accepted, is_refusal}
 use Rattle.cluster_history.specs.Jobs.{scan_of}
 use Rattle.cluster_history.specs.Runs.{IsLegal}
 
+-- who owns an open scan
 abbrev pub owner_in : Option Scan → Option ℕ
 owner_in None = None
 owner_in (Some scan) = Some scan.owner
@@ -18,6 +19,7 @@ IsOwners owner (ScanBegin admin at) = ⊥
 IsOwners owner (ScanStep admin) = owner ≡ admin
 IsOwners owner _ = Unit {0}
 
+-- so for every accepted event of a legal history while a scan is open
 abbrev pub OneScan : Type 0
 OneScan =
     (h : History) (event : ClusterEvent) (reply : ClusterReply) (owner : ℕ) → IsLegal (After h event reply)

@@ -2,6 +2,9 @@
 ghost use Rattle.cluster_laws.specs.Moments.{NextTimesCarried};
 ghost use Rattle.cluster_laws.specs.Fates.{WaitingByFate};
 ghost use Rattle.cluster_laws.specs.Owners.{OneScan};
+ghost use Rattle.cluster_laws.specs.Dues.{EachDueOnce};
+
+use cron_schedule::laws::law_after_rises;
 
 /// A job's next time is its first time, carried through the table of scans at each scan that looked at it.
 pub fn law_next_times()
@@ -17,3 +20,10 @@ pub fn law_waiting()
 pub fn law_scans()
     ensures { OneScan }
 {}
+
+/// The due times of a job in an edition rise, and each is fired for at most once.
+pub fn law_dues()
+    ensures { EachDueOnce }
+{
+    law_after_rises();
+}

@@ -1,6 +1,5 @@
-use Rattle.std.proofs.Common.{◌≡◌, ◌<◌, ℕ, List, ◌++◌, map, ◌∙◌, sym, ap, subst, length, refl, arith}
-use Rattle.job_values.specs.declared.numbers.TheConstants.{LAST_LOG_ID}
-use Rattle.cluster_history.specs.Firings.{Shot, shots_by, kind_of}
+use Rattle.std.proofs.Common.{◌≡◌, ◌++◌, map, ◌∙◌, sym, ap, length, refl, arith}
+use Rattle.cluster_history.specs.Firings.{shots_by, kind_of}
 use Rattle.cluster_history.specs.Logs.{placed_from, opened_of, log_of}
 use Rattle.cluster_history.specs.Replies.{queued_after}
 use Rattle.cluster_core.specs.Firing.{shots_decided}

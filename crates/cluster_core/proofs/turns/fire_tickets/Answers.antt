@@ -1,4 +1,4 @@
-use Rattle.std.proofs.Common.{◌≡◌, ◌+◌, ◌<◌, length, arith}
+use Rattle.std.proofs.Common.{◌+◌, ◌<◌, length, arith}
 use Rattle.cluster_history.specs.Firings.{shots_taken}
 use Rattle.cluster_core.proofs.TurnLemmas.{fires-more, shots-front}
 use Rattle.cluster_core.proofs.turns.fire_tickets.Goals as goal

@@ -1,4 +1,4 @@
-use Rattle.std.proofs.Common.{rules, arith}
+use Rattle.std.proofs.Common.{rules}
 use Rattle.cluster_core.proofs.SoundLemmas.{sound-group}
 use Rattle.cluster_core.proofs.cluster.Cluster.add_group.Goals as goal
 

@@ -1,5 +1,4 @@
-use Rattle.std.proofs.Common.{◌≡◌, ℕ, ◌+◌, ◌<◌, ◌∙◌, ap, length, rules, sym, subst, refl, true, Some, None, get_or, arith}
-use Rattle.std.specs.List.{slice_get}
+use Rattle.std.proofs.Common.{◌≡◌, ◌+◌, ◌<◌, ◌∙◌, ap, length, rules, sym, subst, refl, true, Some, None, get_or, arith}
 use Rattle.std.proofs.lemmas.List.{get_or_default}
 use Rattle.std.proofs.lemmas.Option.{get_or_from_slice_get}
 use Rattle.cluster_history.specs.Looks.{look_seat}
@@ -12,7 +11,7 @@ use Rattle.cluster_history.specs.Tickets.{put_due}
 use Rattle.cluster_history.specs.Replies.{refused}
 use Rattle.cluster_core.specs.Stands.{StandsFor, Answered}
 use Rattle.cluster_core.specs.Steps.{LooksAt}
-use Rattle.cluster_core.specs.Firing.{FiresAs, Opens, shots_decided}
+use Rattle.cluster_core.specs.Firing.{Opens, shots_decided}
 use Rattle.cluster_core.proofs.AdminLemmas.{read-is}
 use Rattle.cluster_core.proofs.SoundLemmas.{within, jobs-rise, groups-rise, sound-looked}
 use Rattle.cluster_core.proofs.PoolLemmas.{queued-few}

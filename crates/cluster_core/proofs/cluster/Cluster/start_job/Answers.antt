@@ -1,4 +1,4 @@
-use Rattle.std.proofs.Common.{rules, sym, subst, refl, arith}
+use Rattle.std.proofs.Common.{sym, subst, refl}
 use Rattle.cluster_core.specs.Kept.{Kept}
 use Rattle.cluster_core.specs.Stands.{StandsFor}
 use Rattle.cluster_core.specs.Changes.{started_row}

@@ -1,4 +1,4 @@
-use Rattle.std.proofs.Common.{◌≡◌, ℕ, ◌+◌, ◌/◌, ◌<◌, ◌∙◌, ap, length, sym, subst, refl, true, get_or, arith}
+use Rattle.std.proofs.Common.{◌≡◌, ◌+◌, ◌/◌, ◌<◌, ◌∙◌, ap, length, sym, subst, refl, true, get_or, arith}
 use Rattle.std.proofs.lemmas.List.{get_or_default}
 use Rattle.job_values.specs.declared.cluster.ClusterEvent.TheVariants.{Turn}
 use Rattle.job_values.specs.declared.cluster.ClusterRefusal.TheVariants.{IdsSpent}

@@ -33,7 +33,7 @@ pub enum Change {
 
 /// An event that is ready to be committed: its reply, and its change.
 #[derive(Debug, Drop)]
-pub struct Prepared {
+pub struct PreparedRun {
     pub reply: ExecutorReply,
     pub change: Change,
 }

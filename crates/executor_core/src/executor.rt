@@ -9,7 +9,7 @@ ghost use Rattle.job_lane.specs.Runs.{without_first};
 ghost use Rattle.executor_core.specs.Parts.{line_change, change_by, change_of, parts_after, CanCommit, StandsFor, Answers};
 
 use super::add::{add_all, hold_all, release_all, take_out};
-use super::change::{Change, Prepared};
+use super::change::{Change, PreparedRun};
 use super::ids::Ids;
 use super::items::{all_expired, all_killed, item_of};
 use super::known::KnownLogs;
@@ -382,7 +382,7 @@ impl Executor {
     }
 
     /// Gets an event ready: its reply and its change, with all the memory that it takes. It changes nothing.
-    pub fn prepare(&mut self, event: &ExecutorEvent) -> Result<Prepared, NoMemory>
+    pub fn prepare(&mut self, event: &ExecutorEvent) -> Result<PreparedRun, NoMemory>
         ensures parts { self.new.parts ≡ self.old.parts }
         ensures ready { IfOk result (λ prepared. CanCommit self.new prepared.change) }
         ensures right { IfOk result (λ prepared. Answers self.old.parts event.now prepared.reply (parts_after self.old.parts prepared.change)) }
@@ -390,16 +390,16 @@ impl Executor {
         let reply = self.reply_to(event)?;
         let change = self.change_to(event, &reply)?;
         self.make_room(&change)?;
-        Ok(Prepared { reply, change })
+        Ok(PreparedRun { reply, change })
     }
 
     /// Makes the change of the last prepare, and gives its reply. It takes no memory.
-    pub fn commit(&mut self, prepared: Prepared) -> ExecutorReply
+    pub fn commit(&mut self, prepared: PreparedRun) -> ExecutorReply
         requires { CanCommit self.old prepared.change }
         ensures parts { self.new.parts ≡ parts_after self.old.parts prepared.change }
         ensures reply { result ≡ prepared.reply }
     {
-        let Prepared { reply, change } = prepared;
+        let PreparedRun { reply, change } = prepared;
         self.apply(change);
         reply
     }

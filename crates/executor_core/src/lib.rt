@@ -13,5 +13,6 @@ pub mod runs;
 #[cfg(test)]
 mod tests;
 
-pub use change::{Change, Prepared};
+pub use change::{Change, PreparedRun};
 pub use executor::Executor;
+pub use executor_laws::laws;

@@ -1,0 +1,39 @@
+//! What an event changes, with all that it adds already made.
+
+use executor_history::Queued;
+use job_values::{CallbackItem, ExecutorReply, JobId, LogId, LogLine, Moment, RunnerNo, Seq};
+
+/// The change of an accepted event.
+#[derive(Debug, Drop)]
+pub enum Change {
+    Nothing,
+    /// A run waits, whether it covers the earlier ones of its job, and the items of those that it covers.
+    Queue(Queued, bool, Seq<CallbackItem>),
+    /// The runs of a job are ended, with the items of the queued ones.
+    Kill(JobId, Seq<CallbackItem>),
+    /// The ready front goes on a runner.
+    Poll(RunnerNo, Moment),
+    /// A runner is free, with the item of its run, if there is one.
+    Finish(RunnerNo, Seq<CallbackItem>),
+    /// The late runs get their results, which are these items.
+    Expire(Moment, Seq<CallbackItem>),
+    /// A log gets a line.
+    Line(LogId, LogLine),
+    /// Old logs are dropped.
+    Trim(Moment),
+    /// A batch is taken.
+    Take,
+    /// The batch is acknowledged.
+    Ack,
+    /// The batch failed, and whether its items were saved.
+    Fail(bool),
+    /// The spooled items wait again.
+    Reload,
+}
+
+/// An event that is ready to be committed: its reply, and its change.
+#[derive(Debug, Drop)]
+pub struct PreparedRun {
+    pub reply: ExecutorReply,
+    pub change: Change,
+}

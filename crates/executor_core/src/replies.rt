@@ -1,0 +1,295 @@
+//! The replies of the events, by what an executor keeps.
+ghost use Rattle.std.specs.Prelude.{◌≡◌, ◌+◌, ◌-◌, ◌≤◌, ◌++◌, [], ◌∷◌, length, drop, take, max, IfOk, map, ◌^◌, codes, Some, ◌<◌};
+ghost use Rattle.std.specs.List.{list_any};
+ghost use Rattle.std.specs.Str.{bytes_eq};
+ghost use Rattle.std.specs.Option.{option_copied};
+ghost use Rattle.std.specs.VecDeque.{deque_len};
+ghost use Rattle.executor_history.specs.History.{is_refusal};
+ghost use Rattle.executor_history.specs.Runs.{is_cover, is_discard, is_busy, ready_front, run_on};
+ghost use Rattle.executor_history.specs.Replies.{run_reply, idle_reply, poll_reply, given_reply, finish_reply, line_reply, lines_reply, lines_from, take_reply, batch_reply, is_ended, is_full, has_room};
+ghost use Rattle.executor_history.specs.Past.{known_of};
+ghost use Rattle.executor_core.specs.Rows.{known_in};
+
+use super::add::copy_first;
+use super::ids::Ids;
+use super::items::finish_code;
+use super::known::KnownLogs;
+use super::runs::{busy, ended, front, queue_len, working_on};
+use callback_spool::Callbacks;
+use callback_spool::batch::fitting_items;
+use executor_history::{Queued, Working};
+use job_values::{
+    ExecutorRefusal, ExecutorReply, FinishCode, HandlerName, JobId, LineNo, LogId, LogLine,
+    NoMemory, PolledRun, ReadLines, Run, RunnerNo, Seq,
+};
+use std::alloc::Global;
+
+/// The most ids that are held at once.
+pub const HELD_IDS: usize = 10_000;
+
+/// The most lines of a log.
+pub const LOG_LINES: usize = 10_000;
+
+/// Whether the executor has this handler.
+fn has_handler(run: &Run, handlers: &[HandlerName]) -> bool
+    ensures { result ≡ list_any (bytes_eq run.now.handler) handlers.now }
+{
+    handlers
+        .iter()
+        .any(|name| run.handler.as_str() == name.as_str())
+}
+
+/// Whether the run covers the earlier ones of its job.
+pub fn covers(run: &Run) -> bool
+    ensures { result ≡ is_cover run.now }
+{
+    run.block.as_str() == "COVER_EARLY"
+}
+
+/// Whether the run gives way to the earlier ones of its job.
+fn discards(run: &Run) -> bool
+    ensures { result ≡ is_discard run.now }
+{
+    run.block.as_str() == "DISCARD_LATER"
+}
+
+/// Whether only `BEAN` is asked for.
+fn is_bean(run: &Run) -> bool
+    ensures { result ≡ bytes_eq run.now.glue (codes "BEAN") }
+{
+    run.glue.as_str() == "BEAN"
+}
+
+/// Whether no more runs are taken.
+fn full(runs: u64, held: &Ids) -> bool
+    ensures { result ≡ is_full runs held.now.ids }
+{
+    HELD_IDS <= held.len() || runs == u64::MAX
+}
+
+/// The reply of a Run.
+pub fn run_answer(
+    run: &Run,
+    handlers: &[HandlerName],
+    runs: u64,
+    queued: &[Queued],
+    on_runners: &[Working],
+    held: &Ids,
+) -> ExecutorReply
+    ensures { result ≡ run_reply run.now handlers.now runs queued.now on_runners.now held.now.ids }
+{
+    if held.contains(run.log) {
+        return ExecutorReply::Refused(ExecutorRefusal::Held(run.log));
+    }
+    if !is_bean(run) {
+        return ExecutorReply::Refused(ExecutorRefusal::NotBean);
+    }
+    if !has_handler(run, handlers) {
+        return ExecutorReply::Refused(ExecutorRefusal::NoHandler);
+    }
+    if discards(run) && busy(run.job, queued, on_runners) {
+        return ExecutorReply::Refused(ExecutorRefusal::Discarded);
+    }
+    if full(runs, held) {
+        return ExecutorReply::Refused(ExecutorRefusal::HeldFull);
+    }
+    if covers(run) {
+        return ExecutorReply::Queued(queue_len(run.job, queued));
+    }
+    ExecutorReply::Queued(0)
+}
+
+/// The reply of an IdleBeat.
+pub fn idle_answer(job: JobId, queued: &[Queued], on_runners: &[Working]) -> ExecutorReply
+    ensures { result ≡ idle_reply (is_busy job queued.now on_runners.now) }
+{
+    if busy(job, queued, on_runners) {
+        ExecutorReply::Refused(ExecutorRefusal::Running)
+    } else {
+        ExecutorReply::Done
+    }
+}
+
+/// The run that a runner is given.
+fn polled_run(alloc: Global, queued: &Queued) -> Result<PolledRun, NoMemory>
+    ensures { IfOk result (λ run. ExecutorReply.Runs run ≡ given_reply (Some queued.now)) }
+{
+    Ok(PolledRun {
+        log: queued.run.log,
+        job: queued.job,
+        handler: queued.run.handler.copy(alloc)?,
+        param: queued.run.param.copy(alloc)?,
+        index: queued.run.index,
+        total: queued.run.total,
+    })
+}
+
+/// The reply of a Poll by a free runner.
+fn given_answer(
+    alloc: Global,
+    queued: &[Queued],
+    on_runners: &[Working],
+) -> Result<ExecutorReply, NoMemory>
+    ensures { IfOk result (λ r. r ≡ given_reply (ready_front queued.now on_runners.now)) }
+{
+    match front(queued, on_runners) {
+        None => Ok(ExecutorReply::Refused(ExecutorRefusal::Nothing)),
+        Some(run) => Ok(ExecutorReply::Runs(polled_run(alloc, run)?)),
+    }
+}
+
+/// The reply of a Poll.
+pub fn poll_answer(
+    alloc: Global,
+    runner: RunnerNo,
+    queued: &[Queued],
+    on_runners: &[Working],
+) -> Result<ExecutorReply, NoMemory>
+    ensures { IfOk result (λ r. r ≡ poll_reply (run_on runner on_runners.now) (ready_front queued.now on_runners.now)) }
+{
+    match working_on(runner, on_runners) {
+        None => given_answer(alloc, queued, on_runners),
+        Some(working) => Ok(ExecutorReply::Refused(ExecutorRefusal::RunnerBusy(working.run.log))),
+    }
+}
+
+/// The reply of a Finish.
+pub fn finish_answer(runner: RunnerNo, code: FinishCode, on_runners: &[Working]) -> ExecutorReply
+    ensures { result ≡ finish_reply code (run_on runner on_runners.now) }
+{
+    match working_on(runner, on_runners) {
+        None => ExecutorReply::Refused(ExecutorRefusal::NotRunning),
+        Some(working) => {
+            if working.run.given {
+                return ExecutorReply::NoItem(working.run.log);
+            }
+            if working.run.ended {
+                return ExecutorReply::Item(working.run.log, 500);
+            }
+            ExecutorReply::Item(working.run.log, finish_code(code))
+        }
+    }
+}
+
+/// The reply of a BatchAck and of a BatchFail.
+pub fn batch_answer(callbacks: &Callbacks) -> ExecutorReply
+    ensures { result ≡ batch_reply callbacks.now.batch }
+{
+    if callbacks.batch().is_empty() {
+        ExecutorReply::Refused(ExecutorRefusal::NoBatch)
+    } else {
+        ExecutorReply::Done
+    }
+}
+
+/// The reply of a BatchTake.
+pub fn take_answer(alloc: Global, callbacks: &Callbacks) -> Result<ExecutorReply, NoMemory>
+    ensures { IfOk result (λ r. r ≡ take_reply callbacks.now.waiting callbacks.now.batch) }
+{
+    if !callbacks.batch().is_empty() {
+        return Ok(ExecutorReply::Refused(ExecutorRefusal::BatchOut));
+    }
+    if callbacks.waiting().is_empty() {
+        return Ok(ExecutorReply::Refused(ExecutorRefusal::Nothing));
+    }
+    let mut items = Seq::new(alloc);
+    let count = fitting_items(callbacks.waiting());
+    copy_first(alloc, &mut items, callbacks.waiting(), count)?;
+    Ok(ExecutorReply::Batch(items))
+}
+
+/// The reply of a Kept.
+pub fn kept_answer(alloc: Global, callbacks: &Callbacks) -> Result<ExecutorReply, NoMemory>
+    ensures { IfOk result (λ r. r ≡ ExecutorReply.Kept (callbacks.now.batch ++ callbacks.now.spooled ++ callbacks.now.waiting)) }
+{
+    let mut items = Seq::new(alloc);
+    copy_first(
+        alloc,
+        &mut items,
+        callbacks.batch(),
+        callbacks.batch().len(),
+    )?;
+    copy_first(
+        alloc,
+        &mut items,
+        callbacks.spooled(),
+        callbacks.spooled().len(),
+    )?;
+    copy_first(
+        alloc,
+        &mut items,
+        callbacks.waiting(),
+        callbacks.waiting().len(),
+    )?;
+    Ok(ExecutorReply::Kept(items))
+}
+
+/// The reply of a LogLine.
+pub fn line_answer(runner: RunnerNo, on_runners: &[Working], known: &KnownLogs) -> ExecutorReply
+    ensures { result ≡ line_reply (run_on runner on_runners.now) (map known_in known.now.rows) }
+{
+    match working_on(runner, on_runners) {
+        None => ExecutorReply::Refused(ExecutorRefusal::NotRunning),
+        Some(working) => {
+            if takes_line(known, working.run.log) {
+                ExecutorReply::Done
+            } else {
+                ExecutorReply::Refused(ExecutorRefusal::LinesFull)
+            }
+        }
+    }
+}
+
+/// Whether a log may have one more line.
+fn takes_line(known: &KnownLogs, log: LogId) -> bool
+    ensures { result ≡ has_room (known_of log (map known_in known.now.rows)) }
+{
+    match known.find(log) {
+        None => true,
+        Some(row) => row.lines.len() < LOG_LINES,
+    }
+}
+
+/// At most 100 of these lines, from a number on.
+fn some_lines(alloc: Global, lines: &[LogLine], first: u64) -> Result<Seq<LogLine>, NoMemory>
+    requires least { 1 ≤ first }
+    requires most { first < 2 ^ 32 }
+    ensures { IfOk result (λ some. some ≡ lines_from first lines.now) }
+{
+    let at = (first - 1) as usize;
+    let mut some = Seq::new(alloc);
+    for count in 0..100 {
+        let past = lines.len() <= at + count;
+        if past {
+            return Ok(some);
+        }
+        some.push(lines[at + count].copy(alloc)?)?;
+    }
+    Ok(some)
+}
+
+/// The reply of a ReadLines.
+pub fn lines_answer(
+    alloc: Global,
+    log: LogId,
+    first: LineNo,
+    queued: &[Queued],
+    on_runners: &[Working],
+    known: &KnownLogs,
+) -> Result<ExecutorReply, NoMemory>
+    ensures { IfOk result (λ r. r ≡ lines_reply (max first 1) (is_ended log queued.now on_runners.now) (known_of log (map known_in known.now.rows))) }
+{
+    let from = u64::from(first.get()).max(1);
+    match known.find(log) {
+        None => Ok(ExecutorReply::Refused(ExecutorRefusal::NoLines)),
+        Some(row) => {
+            let lines = some_lines(alloc, row.lines.as_slice(), from)?;
+            Ok(ExecutorReply::Lines(ReadLines {
+                from,
+                to: from - 1 + lines.len() as u64,
+                is_end: ended(log, queued, on_runners),
+                lines,
+            }))
+        }
+    }
+}

@@ -1,0 +1,7 @@
+pub mod Lists
+pub mod History
+pub mod Items
+pub mod Runs
+pub mod Past
+pub mod Replies
+pub mod Legal

@@ -1,0 +1,4 @@
+pub mod Cuts
+pub mod Script
+pub mod Took
+pub mod Progress

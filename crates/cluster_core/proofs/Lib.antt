@@ -1,0 +1,4 @@
+pub mod AdminLemmas
+pub mod StandsLemmas
+pub mod SoundLemmas
+pub mod JobLemmas

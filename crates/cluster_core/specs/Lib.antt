@@ -1,0 +1,4 @@
+pub mod Kept
+pub mod Changes
+pub mod Starts
+pub mod Stands

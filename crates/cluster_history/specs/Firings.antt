@@ -1,0 +1,77 @@
+-- Which jobs an entry fires, and for which shards.
+use Rattle.std.specs.Prelude.{ℕ, List, [], ◌∷◌, ◌++◌, map, length, max, Bool, true, false, Option, Some, None, if◌then◌else◌}
+use Rattle.std.specs.List.{range_with_len}
+use Rattle.job_values.specs.declared.words.Route.{Route}
+use Rattle.job_values.specs.declared.words.Route.TheVariants.{ShardingBroadcast}
+use Rattle.job_values.specs.declared.words.TriggerKind.{TriggerKind}
+use Rattle.job_values.specs.declared.words.TriggerKind.TheVariants as kind
+use Rattle.job_values.specs.declared.words.Case.{Case}
+use Rattle.job_values.specs.declared.words.Case.TheVariants as case
+use Rattle.job_records.specs.declared.job.Job.{Job}
+use Rattle.job_records.specs.declared.group.Group.{Group}
+use Rattle.cluster_history.specs.declared.scan.Scan.{Scan}
+use Rattle.cluster_history.specs.declared.ticket.Ticket.{Ticket}
+use Rattle.cluster_history.specs.History.{History}
+use Rattle.cluster_history.specs.Groups.{groups_of, group_with, addresses_in}
+use Rattle.cluster_history.specs.Looks.{Looked, job_with}
+use Rattle.cluster_history.specs.Jobs.{jobs_of, scan_of, look_of}
+use Rattle.cluster_history.specs.Tickets.{waiting, taken, second_of}
+
+-- one log that a firing of a job is to open: the job's row, why and when it fires, and the shard
+pub record Shot : Type 0 where
+  pub row : Job
+  pub kind : TriggerKind
+  pub time : ℕ
+  pub index : ℕ
+  pub total : ℕ
+
+-- a broadcast has a shard for each address, and one where there is none; every other route has one
+abbrev pub shards : Route → List (List ℕ) → ℕ
+shards ShardingBroadcast addresses = max 1 (length addresses)
+shards _ addresses = 1
+
+abbrev pub shots_by : Job → TriggerKind → ℕ → ℕ → List Shot
+shots_by row kind time total =
+    map (λ index. record { row = row; kind = kind; time = time; index = index; total = total }) (range_with_len 0 total)
+
+-- the logs that a firing of a job is to open, in order of their shards
+abbrev pub shots_of : List Group → TriggerKind → ℕ → Job → List Shot
+shots_of groups kind time row =
+    shots_by row kind time (shards row.spec.route (addresses_in (group_with row.spec.group groups)))
+
+-- a job that is gone fires nothing
+abbrev pub shots_if : List Group → TriggerKind → ℕ → Option Job → List Shot
+shots_if groups kind time None = []
+shots_if groups kind time (Some row) = shots_of groups kind time row
+
+abbrev pub kind_of : Case → TriggerKind
+kind_of case.Misfire = kind.Misfire
+kind_of case.Late = kind.Cron
+kind_of case.Early = kind.Cron
+
+-- a look that fires now, at the moment of its scan
+abbrev pub shots_looked : List Group → ℕ → Option Looked → List Shot
+shots_looked groups time None = []
+shots_looked groups time (Some look) =
+    if look.decision.fire_now then shots_of groups (kind_of look.decision.case) time look.row else []
+
+abbrev pub shots_scanned : List Group → Option Scan → Option Looked → List Shot
+shots_scanned groups None look = []
+shots_scanned groups (Some scan) look = shots_looked groups scan.at look
+
+-- a ticket that a turn took
+abbrev pub shots_taken : List Group → List Job → ℕ → Ticket → List Shot
+shots_taken groups jobs time ticket = shots_if groups kind.Cron time (job_with ticket.job jobs)
+
+-- tickets that a turn took, in order
+abbrev pub shots_for : List Group → List Job → ℕ → List Ticket → List Shot
+shots_for groups jobs time [] = []
+shots_for groups jobs time (ticket ∷ tickets) = shots_taken groups jobs time ticket ++ shots_for groups jobs time tickets
+
+-- the logs that the next step of the open scan is to open, in order
+abbrev pub shots_stepped : History → List Shot
+shots_stepped h = shots_scanned (groups_of h) (scan_of h) (look_of h)
+
+-- the logs that a turn of an admin at a moment is to open, in order
+abbrev pub shots_turned : History → ℕ → ℕ → List Shot
+shots_turned h admin at = shots_for (groups_of h) (jobs_of h) at (taken admin (second_of at) (waiting h))

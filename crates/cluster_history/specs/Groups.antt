@@ -1,0 +1,27 @@
+-- The groups.
+use Rattle.std.specs.Prelude.{ℕ, ◌+◌, List, [], ◌∷◌, ◌++◌, Option, Some, None}
+use Rattle.job_values.specs.declared.cluster.ClusterEvent.TheVariants.{AddGroup}
+use Rattle.job_records.specs.declared.group.Group.{Group}
+use Rattle.job_records.specs.Rows.{row_with}
+use Rattle.cluster_history.specs.History.{History, Begin, After}
+
+-- the id of the last group that was added
+abbrev pub last_group : History → ℕ
+last_group (Begin o) = o.last_group
+last_group (After h (AddGroup app kind addresses) r) = last_group h + 1
+last_group (After h _ r) = last_group h
+
+-- the groups, in order of their adding
+abbrev pub groups_of : History → List Group
+groups_of (Begin o) = o.groups
+groups_of (After h (AddGroup app kind addresses) r) =
+    groups_of h ++ record { id = last_group h + 1; app = app; kind = kind; addresses = addresses } ∷ []
+groups_of (After h _ r) = groups_of h
+
+abbrev pub group_with : ℕ → List Group → Option Group
+group_with id groups = row_with (λ group. group.id) id groups
+
+-- the addresses of a group; a group that is not there has none
+abbrev pub addresses_in : Option Group → List (List ℕ)
+addresses_in None = []
+addresses_in (Some group) = group.addresses

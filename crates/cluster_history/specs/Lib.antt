@@ -1,0 +1,11 @@
+pub mod History
+pub mod Nodes
+pub mod Groups
+pub mod Pages
+pub mod Looks
+pub mod Jobs
+pub mod Tickets
+pub mod Firings
+pub mod Logs
+pub mod Replies
+pub mod Runs

@@ -1,0 +1,138 @@
+-- The reply of each event: the first refusal that applies, in order, else what was done.
+use Rattle.std.specs.Prelude.{ℕ, ◌+◌, ℤ, List, [], ◌∷◌, map, length, Bool, true, false, nat_lt, is_some, Option, Some, None, Result, Ok, Err, slice_get, ◌==◌, if◌then◌else◌}
+use Rattle.job_values.specs.declared.numbers.TheConstants.{LAST_JOB_ID, LAST_LOG_ID}
+use Rattle.job_values.specs.declared.job.FiredTicket.{FiredTicket}
+use Rattle.job_values.specs.declared.job.ScheduleFault.{ScheduleFault}
+use Rattle.job_values.specs.declared.cluster.ClusterEvent.{ClusterEvent}
+use Rattle.job_values.specs.declared.cluster.ClusterEvent.TheVariants.{NodeStart, AddGroup, AddJob, StartJob, ScanBegin, ScanStep, Turn}
+use Rattle.job_values.specs.declared.cluster.ClusterRefusal.{ClusterRefusal}
+use Rattle.job_values.specs.declared.cluster.ClusterRefusal.TheVariants.{NodeRunning, NodeStopped, Busy, NotScanning, NoGroup, NoJob, BadSchedule, NoNext, TooMany, IdsSpent}
+use Rattle.job_values.specs.declared.cluster.ClusterReply.{ClusterReply}
+use Rattle.job_values.specs.declared.cluster.ClusterReply.TheVariants as reply
+use Rattle.cron_schedule.specs.declared.plan.Plan.{Plan}
+use Rattle.cron_schedule.specs.Parse.{parsed}
+use Rattle.job_records.specs.declared.job.Job.{Job}
+use Rattle.job_records.specs.declared.group.Group.{Group}
+use Rattle.cluster_history.specs.declared.limits.TheConstants.{MOST_GROUPS, MOST_JOBS, LAST_EDITION}
+use Rattle.cluster_history.specs.declared.scan.Scan.{Scan}
+use Rattle.cluster_history.specs.declared.scan.Seat.{Seat}
+use Rattle.cluster_history.specs.declared.ticket.Ticket.{Ticket}
+use Rattle.cluster_history.specs.History.{History, accepted, settings_of}
+use Rattle.cluster_history.specs.Nodes.{runs}
+use Rattle.cluster_history.specs.Groups.{groups_of, last_group, group_with}
+use Rattle.cluster_history.specs.Looks.{Looked, job_with}
+use Rattle.cluster_history.specs.Jobs.{jobs_of, last_job, scan_of, look_of, page_of, first_time}
+use Rattle.cluster_history.specs.Tickets.{waiting, taken, second_of}
+use Rattle.cluster_history.specs.Firings.{Shot, shots_stepped, shots_turned, shots_taken}
+use Rattle.cluster_history.specs.Logs.{last_log, queue_of, placed_from, opened_of, one_more}
+
+abbrev pub refused : ClusterRefusal → ClusterReply
+refused why = reply.Refused why
+
+-- an admin that does not run is refused before all else
+abbrev pub if_running : Bool → ℕ → ClusterReply → ClusterReply
+if_running true admin answer = answer
+if_running false admin answer = refused (NodeStopped admin)
+
+abbrev pub start_reply : Bool → ℕ → ClusterReply
+start_reply true admin = refused (NodeRunning admin)
+start_reply false admin = reply.Done
+
+-- by the number of groups, and the last id
+abbrev pub group_reply : ℕ → ℕ → ClusterReply
+group_reply count last =
+    if nat_lt count MOST_GROUPS
+    then (if nat_lt last LAST_JOB_ID then reply.Group (last + 1) else refused (TooMany LAST_JOB_ID))
+    else refused (TooMany MOST_GROUPS)
+
+-- by the number of jobs, and the last id
+abbrev pub room_reply : ℕ → ℕ → ClusterReply
+room_reply count last =
+    if nat_lt count MOST_JOBS
+    then (if nat_lt last LAST_JOB_ID then reply.Job (last + 1) else refused (TooMany LAST_JOB_ID))
+    else refused (TooMany MOST_JOBS)
+
+-- by what the schedule's text says
+abbrev pub schedule_reply : Result Plan ScheduleFault → ℕ → ℕ → ClusterReply
+schedule_reply (Err fault) count last = refused (BadSchedule fault)
+schedule_reply (Ok plan) count last = room_reply count last
+
+-- by whether the group that the job names is there
+abbrev pub job_reply : Bool → Result Plan ScheduleFault → ℕ → ℕ → ClusterReply
+job_reply false said count last = refused NoGroup
+job_reply true said count last = schedule_reply said count last
+
+-- by the first time after the start
+abbrev pub edition_reply : ℕ → Option ℕ → ClusterReply
+edition_reply edition None = refused NoNext
+edition_reply edition (Some next) =
+    if nat_lt edition LAST_EDITION then reply.Running (edition + 1) next else refused IdsSpent
+
+-- by the row of the job
+abbrev pub running_reply : ℤ → ℕ → Option Job → ClusterReply
+running_reply offset at None = refused NoJob
+running_reply offset at (Some row) = edition_reply row.edition (first_time offset row.schedule at)
+
+-- by the open scan
+abbrev pub begin_reply : Option Scan → List Seat → ClusterReply
+begin_reply (Some scan) page = refused (Busy scan.owner)
+begin_reply None page = reply.Begun (length page)
+
+-- the last log id is not above its greatest value
+abbrev pub if_ids : ℕ → ℕ → ClusterReply → ClusterReply
+if_ids last count answer = if nat_lt LAST_LOG_ID (last + count) then refused IdsSpent else answer
+
+-- a look with the logs that it opens, or a skip of the seat's job
+abbrev pub look_reply : ℕ → ℕ → List Shot → ℕ → Option Looked → ClusterReply
+look_reply last queued shots job None = reply.Skip job
+look_reply last queued shots job (Some look) =
+    if_ids last (length shots) (reply.Look job look.decision.case look.due look.decision.next look.decision.put
+      (map opened_of (placed_from last queued shots)))
+
+abbrev pub seat_reply : ℕ → ℕ → List Shot → Option Looked → Option Seat → ClusterReply
+seat_reply last queued shots look None = refused NotScanning
+seat_reply last queued shots look (Some seat) = look_reply last queued shots seat.job look
+
+-- by the open scan, and by what its next step looks at
+abbrev pub step_reply : ℕ → ℕ → List Shot → Option Looked → ℕ → Option Scan → ClusterReply
+step_reply last queued shots look admin None = refused NotScanning
+step_reply last queued shots look admin (Some scan) =
+    if scan.owner == admin
+    then seat_reply last queued shots look (slice_get scan.page scan.steps)
+    else refused NotScanning
+
+-- how many logs a pool has after so many more
+abbrev pub queued_after : ℕ → List Shot → ℕ
+queued_after queued [] = queued
+queued_after queued (shot ∷ shots) = queued_after (one_more queued) shots
+
+abbrev pub fired_by : Ticket → ℕ → ℕ → List Shot → FiredTicket
+fired_by ticket last queued shots = record {
+    job = ticket.job; edition = ticket.edition; due = ticket.due; opened = map opened_of (placed_from last queued shots) }
+
+-- the tickets that a turn took, each with the logs that it opened
+abbrev pub fired_from : List Group → List Job → ℕ → ℕ → ℕ → List Ticket → List FiredTicket
+fired_from groups jobs at last queued [] = []
+fired_from groups jobs at last queued (ticket ∷ tickets) =
+    fired_by ticket last queued (shots_taken groups jobs at ticket)
+    ∷ fired_from groups jobs at (last + length (shots_taken groups jobs at ticket)) (queued_after queued (shots_taken groups jobs at ticket)) tickets
+
+-- the reply that an event has after accepted entries
+abbrev pub reply_after : History → ClusterEvent → ClusterReply
+reply_after h (NodeStart admin) = start_reply (runs h admin) admin
+reply_after h (AddGroup app kind addresses) = group_reply (length (groups_of h)) (last_group h)
+reply_after h (AddJob spec) =
+    job_reply (is_some (group_with spec.group (groups_of h))) (parsed spec.kind spec.schedule) (length (jobs_of h)) (last_job h)
+reply_after h (StartJob at job) = running_reply (settings_of h).offset at (job_with job (jobs_of h))
+reply_after h (ScanBegin admin at) = if_running (runs h admin) admin (begin_reply (scan_of h) (page_of h at))
+reply_after h (ScanStep admin) =
+    if_running (runs h admin) admin
+      (step_reply (last_log h) (length (queue_of h admin)) (shots_stepped h) (look_of h) admin (scan_of h))
+reply_after h (Turn admin at) =
+    if_running (runs h admin) admin
+      (if_ids (last_log h) (length (shots_turned h admin at))
+        (reply.Fired (fired_from (groups_of h) (jobs_of h) at (last_log h) (length (queue_of h admin)) (taken admin (second_of at) (waiting h)))))
+
+-- the reply that an event has after a history
+abbrev pub reply_of : History → ClusterEvent → ClusterReply
+reply_of h e = reply_after (accepted h) e

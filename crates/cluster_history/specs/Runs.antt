@@ -1,0 +1,43 @@
+-- Runs of events, and what is counted of a history.
+use Rattle.std.specs.Prelude.{◌≡◌, ℕ, List, [], ◌∷◌, map, length, sum, count_by}
+use Rattle.job_values.specs.declared.job.Report.{Report}
+use Rattle.job_values.specs.declared.cluster.ClusterEvent.{ClusterEvent}
+use Rattle.job_values.specs.declared.cluster.ClusterReply.{ClusterReply}
+use Rattle.job_records.specs.Rows.{IsRising}
+use Rattle.cluster_history.specs.History.{History, Begin, After, Opening, accepted}
+use Rattle.cluster_history.specs.Nodes.{admins}
+use Rattle.cluster_history.specs.Groups.{groups_of}
+use Rattle.cluster_history.specs.Jobs.{jobs_of}
+use Rattle.cluster_history.specs.Tickets.{waiting}
+use Rattle.cluster_history.specs.Logs.{logs_of, queue_of, is_failed, is_settled}
+use Rattle.cluster_history.specs.Replies.{reply_of}
+
+-- the history with these events behind it, each with its reply
+abbrev pub run : History → List ClusterEvent → History
+run h [] = h
+run h (e ∷ es) = run (After h e (reply_of h e)) es
+
+-- the replies of these events, one after another
+abbrev pub replies : History → List ClusterEvent → List ClusterReply
+replies h [] = []
+replies h (e ∷ es) = reply_of h e ∷ replies (After h e (reply_of h e)) es
+
+-- each reply is the one that its event has after the entries before it, and the opening's ids rise up to the last ones
+abbrev pub IsLegal : History → Type 0
+IsLegal (Begin o) =
+    IsRising (λ job. job.id) 0 o.jobs o.last_job × IsRising (λ group. group.id) 0 o.groups o.last_group × IsRising (λ log. log.id) 0 o.logs o.last_log
+IsLegal (After h e r) = IsLegal h × (r ≡ reply_of h e)
+
+-- the logs in all pools
+abbrev pub queued_in : History → ℕ
+queued_in h = sum (map (λ a. length (queue_of h a)) admins)
+
+-- what is counted after accepted entries
+abbrev pub counted : History → Report
+counted h = record {
+    entries = 0; jobs = length (jobs_of h); logs = length (logs_of h); settled = count_by is_settled (logs_of h);
+    failed = count_by is_failed (logs_of h); waiting = length (waiting h); queued = queued_in h; held = 0 }
+
+-- what is counted after a history: the jobs, logs, tickets and pools, without lines and held ids
+abbrev pub report_of : History → Report
+report_of h = counted (accepted h)

@@ -1,0 +1,57 @@
+-- The tickets that wait in the rings.
+use Rattle.std.specs.Prelude.{ℕ, ◌+◌, ◌/◌, ◌%◌, ◌==◌, List, [], ◌∷◌, ◌++◌, filter, Bool, ◌&&◌, ◌||◌, not, Option, Some, None}
+use Rattle.job_values.specs.declared.cluster.ClusterEvent.TheVariants.{ScanStep, Turn}
+use Rattle.cluster_history.specs.declared.limits.TheConstants.{SLOTS}
+use Rattle.cluster_history.specs.declared.ticket.Ticket.{Ticket}
+use Rattle.cluster_history.specs.History.{History, Begin, After}
+use Rattle.cluster_history.specs.Looks.{Looked}
+use Rattle.cluster_history.specs.Jobs.{look_of}
+
+-- the second of a moment
+abbrev pub second_of : ℕ → ℕ
+second_of moment = moment / 1000
+
+-- the slot of a due time in the ring
+abbrev pub slot_of : ℕ → ℕ
+slot_of due = second_of due % SLOTS
+
+-- whether a ticket is in a slot of an admin
+abbrev pub is_in_slot : ℕ → ℕ → Ticket → Bool
+is_in_slot admin slot ticket = (ticket.admin == admin) && (slot_of ticket.due == slot)
+
+-- the slot of a second, and the one before it
+abbrev pub present_slot : ℕ → ℕ
+present_slot second = second % SLOTS
+
+abbrev pub past_slot : ℕ → ℕ
+past_slot second = (second + 59) % SLOTS
+
+-- whether a turn of an admin at a second takes a ticket
+abbrev pub is_taken : ℕ → ℕ → Ticket → Bool
+is_taken admin second ticket = is_in_slot admin (present_slot second) ticket || is_in_slot admin (past_slot second) ticket
+
+-- the tickets that it takes: those of the present slot, then those of the slot before, each in order
+abbrev pub taken : ℕ → ℕ → List Ticket → List Ticket
+taken admin second tickets =
+    filter (is_in_slot admin (present_slot second)) tickets ++ filter (is_in_slot admin (past_slot second)) tickets
+
+-- the tickets that it leaves
+abbrev pub left : ℕ → ℕ → List Ticket → List Ticket
+left admin second tickets = filter (λ ticket. not (is_taken admin second ticket)) tickets
+
+abbrev pub put_due : ℕ → Looked → Option ℕ → List Ticket → List Ticket
+put_due admin look None before = before
+put_due admin look (Some due) before =
+    before ++ record { admin = admin; job = look.row.id; edition = look.row.edition; due = due } ∷ []
+
+-- a look that puts a time makes a ticket, behind the others
+abbrev pub put_behind : ℕ → Option Looked → List Ticket → List Ticket
+put_behind admin None before = before
+put_behind admin (Some look) before = put_due admin look look.decision.put before
+
+-- the tickets that no turn took, in the order of the steps that put them
+abbrev pub waiting : History → List Ticket
+waiting (Begin o) = []
+waiting (After h (ScanStep admin) r) = put_behind admin (look_of h) (waiting h)
+waiting (After h (Turn admin at) r) = left admin (second_of at) (waiting h)
+waiting (After h _ r) = waiting h

@@ -1,0 +1,25 @@
+//! The row of a job.
+
+use super::row::Row;
+use cron_schedule::Schedule;
+use job_values::{Edition, JobId, JobSpec, Moment};
+
+/// A job. It runs exactly where it has a next time, and its schedule is what its spec's text says.
+#[derive(Debug, Drop)]
+pub struct Job {
+    pub id: JobId,
+    pub spec: JobSpec,
+    pub schedule: Schedule,
+    pub running: bool,
+    /// How often it was started, stopped or updated.
+    pub edition: Edition,
+    pub next: Option<Moment>,
+}
+
+impl Row for Job {
+    ghost id_of = { λ job. job.id };
+
+    fn id_number(&self) -> u64 {
+        self.id.get() as u64
+    }
+}

@@ -1,0 +1,34 @@
+//! Rows that are kept in order of their ids, and the search for an id.
+ghost use Rattle.std.specs.Prelude.{◌≡◌, ℕ, length};
+ghost use Rattle.job_records.specs.Rows.{RisesFrom, IsPlaceOf};
+
+/// A row that has an id.
+pub trait Row {
+    ghost id_of: { Self → ℕ };
+
+    /// The number of its id.
+    fn id_number(&self) -> u64
+        ensures { result ≡ id_of self.now };
+}
+
+/// The place, counted from 0, of the row with this id, if there is one: a binary search.
+pub fn place_of<R: Row>(rows: &[R], id: u64) -> Option<usize>
+    requires { RisesFrom R.id_of 0 rows.now }
+    ensures { IsPlaceOf R.id_of id rows.now result }
+{
+    let mut low = 0;
+    let mut high = rows.len();
+    while low < high {
+        let middle = low + (high - low) / 2;
+        let found = rows[middle].id_number();
+        if found == id {
+            return Some(middle);
+        }
+        if found < id {
+            low = middle + 1;
+        } else {
+            high = middle;
+        }
+    }
+    None
+}

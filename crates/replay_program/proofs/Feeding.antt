@@ -3,6 +3,7 @@ use Rattle.std.proofs.Common.{◌≡◌, ℕ, ◌++◌, ◌+◌, ◌≤◌, List
 use Rattle.replay_program.proofs.ProgressLemmas.{front_of_has}
 use Rattle.replay_program.specs.Cuts.{is_open, is_within}
 use Rattle.replay_program.specs.Progress.{At, Has, Ends, Front, AtBad, AtLarge, Goes, GoesTo}
+use Rattle.replay_program.specs.Script.{Start}
 use Rattle.replay_program.specs.declared.stream.Replay.{Replay}
 use Rattle.replay_program.specs.declared.stream.Ended.{Ended}
 use Rattle.replay_program.specs.declared.stream.Ended.TheVariants.{Bad, TooLarge, Source, Sink, Memory}
@@ -31,7 +32,7 @@ fed_more before mid now old between new pending left piece rest line more fed sp
     let P : List ℕ → Type 0 = λ t. Has base now new t [] in
     subst P (append_assoc given fed.front line) (goes base (given ++ fed.front) (fed.goes base given has)) }
 
-front_more : (base now : Option (List ℕ)) (given more : List ℕ) → Front base now given → Front base now (given ++ more)
+front_more : (base : Start) (now : Option (List ℕ)) (given more : List ℕ) → Front base now given → Front base now (given ++ more)
 front_more base now given more front = record {
   lines = front.lines;
   whole = front.whole;
@@ -43,7 +44,7 @@ front_more base now given more front = record {
   parts = rw front.parts (append_assoc front.whole front.rest more) }
 
 -- bytes behind those at which a replay ended change nothing
-pub ends_more : (base now : Option (List ℕ)) (replay : Replay) (given more : List ℕ) (e : Ended) → Ends base now replay given e → Ends base now replay (given ++ more) e
+pub ends_more : (base : Start) (now : Option (List ℕ)) (replay : Replay) (given more : List ℕ) (e : Ended) → Ends base now replay given e → Ends base now replay (given ++ more) e
 ends_more base now replay given more Bad ends = record {
   whole = ends.whole;
   front = ends.front;
@@ -88,7 +89,7 @@ goes_pending before now old new pending left piece rest fed base given has =
 -- a front of the replies is written at any time
 pub front_fed : (before now : Option (List ℕ)) (old new : Replay) (pending left piece rest : List ℕ) →
   Fed before now old new pending left piece rest →
-  (base : Option (List ℕ)) (given : List ℕ) → Has base before old given pending → Front base now (given ++ piece)
+  (base : Start) (given : List ℕ) → Has base before old given pending → Front base now (given ++ piece)
 front_fed before now old new pending left piece rest fed base given has =
     let P : List ℕ → Type 0 = λ t. Front base now t in
     let whole : (given ++ fed.front) ++ rest ≡ given ++ piece = append_assoc given fed.front rest ∙ ap (λ t. given ++ t) (sym fed.parts) in
@@ -127,7 +128,7 @@ goes_first now replay pending base given has = let P : List ℕ → Type 0 = λ 
 
 -- a front of the replies is written at any time
 pub front_gone : (before now : Option (List ℕ)) (old new : Replay) (pending left bytes : List ℕ) →
-  Goes before now old new pending left bytes → (base : Option (List ℕ)) (given : List ℕ) → Has base before old given pending → Front base now (given ++ bytes)
+  Goes before now old new pending left bytes → (base : Start) (given : List ℕ) → Has base before old given pending → Front base now (given ++ bytes)
 front_gone before now old new pending left bytes goes base given has =
     let P : List ℕ → Type 0 = λ t. Front base now t in
     subst P (append-nil (given ++ bytes)) (front_of_has base now new (given ++ bytes) left [] (goes base given has))

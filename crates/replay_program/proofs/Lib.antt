@@ -1,3 +1,4 @@
 pub mod CutLemmas
 pub mod ProgressLemmas
 pub mod Feeding
+pub mod ScriptLemmas

@@ -2,7 +2,7 @@
 use Rattle.std.proofs.Common.{◌≡◌, ℕ, ◌+◌, ◌≤◌, ◌<◌, List, [], ◌∷◌, ◌++◌, length, Option, arith, length-append, append_assoc, ap, sym, ◌∙◌, subst, true, inl, inr, take, drop, append-nil, refl}
 use Rattle.std.proofs.lemmas.List.{take-append-drop}
 use Rattle.std.specs.Io.KnownBytes.{Appends}
-use Rattle.replay_program.specs.Script.{Plays, Stands, IsNoLine}
+use Rattle.replay_program.specs.Script.{Start, Plays, Stands, IsNoLine}
 use Rattle.replay_program.specs.Took.{Answers}
 use Rattle.outside.proofs.KnownLemmas.{appends_both}
 use Rattle.replay_program.specs.Cuts.{is_open, content, is_within}
@@ -10,15 +10,22 @@ use Rattle.replay_program.proofs.CutLemmas.{content_line, open_append}
 use Rattle.replay_program.specs.Progress.{At, Stays, Has, Front, AtBad, AtLarge, Ends, Refuses, IsLineEnd, IsPart}
 use Rattle.replay_program.specs.declared.stream.Ended.{Ended}
 use Rattle.replay_program.specs.declared.stream.Ended.TheVariants.{Bad, TooLarge, Source, Sink, Memory}
+use Rattle.cluster_history.specs.declared.settings.Settings.{Settings}
+use Rattle.replay_program.specs.declared.machine.Machine.{Machine}
 use Rattle.replay_program.specs.declared.stream.Replay.{Replay}
 
+-- a machine that stands for a script plays it
+plays_of : {settings : Settings} {machine : Machine} {lines : ℕ} {whole text : List ℕ} → Stands settings machine lines whole text → Plays settings lines whole text
+plays_of stands = record { events = stands.events; script = stands.script; count = stands.count; replies = stands.replies }
+
 -- the answer to a line in the buffer
-pub at_more : (base now : Option (List ℕ)) (old new : Replay) (line whole : List ℕ) →
-  ((lines : ℕ) (whole text : List ℕ) → Stands old.machine lines whole text → Answers old.machine new.machine line old.out.items new.out.items lines whole text) →
+pub at_more : (base : Start) (now : Option (List ℕ)) (old new : Replay) (line whole : List ℕ) →
+  ((settings : Settings) (lines : ℕ) (whole text : List ℕ) → Stands settings old.machine lines whole text →
+    Answers settings old.machine new.machine line old.out.items new.out.items lines whole text) →
   (old.lines ≤ old.size → new.lines ≡ old.lines + 1) → new.size ≡ old.size + length line → 0 < length line →
   At base now old whole → At base now new (whole ++ line)
 at_more base now old new line whole taken counted sized some at =
-    let answer : Answers old.machine new.machine line old.out.items new.out.items old.lines whole at.text = taken old.lines whole at.text at.stands in
+    let answer : Answers base.settings old.machine new.machine line old.out.items new.out.items old.lines whole at.text = taken base.settings old.lines whole at.text at.stands in
     let count : new.lines ≡ old.lines + 1 = counted at.few in
     record {
       text = at.text ++ answer.reply;
@@ -30,7 +37,7 @@ at_more base now old new line whole taken counted sized some at =
       few = omega arith }
 
 -- a replay that stays is where it was
-pub at_stays : (base now : Option (List ℕ)) (old new : Replay) (whole : List ℕ) → Stays old new → At base now old whole → At base now new whole
+pub at_stays : (base : Start) (now : Option (List ℕ)) (old new : Replay) (whole : List ℕ) → Stays old new → At base now old whole → At base now new whole
 at_stays base now old new whole stays at = record {
   text = at.text;
   written = at.written;
@@ -41,32 +48,32 @@ at_stays base now old new whole stays at = record {
   few = omega arith }
 
 -- where a replay is, a front of its replies was written
-pub front_of_at : (base now : Option (List ℕ)) (replay : Replay) (whole rest : List ℕ) → At base now replay whole → Front base now (whole ++ rest)
+pub front_of_at : (base : Start) (now : Option (List ℕ)) (replay : Replay) (whole rest : List ℕ) → At base now replay whole → Front base now (whole ++ rest)
 front_of_at base now replay whole rest at = record {
   lines = replay.lines;
   whole = whole;
   rest = rest;
   written = at.written;
   unwritten = replay.out.items;
-  plays = let P : List ℕ → Type 0 = λ t. Plays replay.lines whole t in subst P at.buffered at.stands.plays;
+  plays = let P : List ℕ → Type 0 = λ t. Plays base.settings replay.lines whole t in subst P at.buffered (plays_of at.stands);
   parts = refl;
   appended = at.appended }
 
 -- the buffer is written whole
-pub at_flushed : (base now later : Option (List ℕ)) (old new : Replay) (whole : List ℕ) →
+pub at_flushed : (base : Start) (now later : Option (List ℕ)) (old new : Replay) (whole : List ℕ) →
   Appends now later old.out.items → new.machine ≡ old.machine → new.out.items ≡ [] → new.lines ≡ old.lines → new.size ≡ old.size →
   At base now old whole → At base later new whole
 at_flushed base now later old new whole wrote machine empty lines size at = record {
   text = at.text;
   written = at.written ++ old.out.items;
   stands = rw (machine, lines) at.stands;
-  appended = appends_both base now later at.written old.out.items at.appended wrote;
+  appended = appends_both base.taken now later at.written old.out.items at.appended wrote;
   buffered = rw empty (at.buffered ∙ sym (append-nil (at.written ++ old.out.items)));
   size = rw size at.size;
   few = omega arith }
 
 -- a front of the buffer is written
-pub front_flushed : (base now later : Option (List ℕ)) (old : Replay) (whole rest : List ℕ) (n : ℕ) →
+pub front_flushed : (base : Start) (now later : Option (List ℕ)) (old : Replay) (whole rest : List ℕ) (n : ℕ) →
   Appends now later (take n old.out.items) → At base now old whole → Front base later (whole ++ rest)
 front_flushed base now later old whole rest n wrote at = record {
   lines = old.lines;
@@ -75,12 +82,12 @@ front_flushed base now later old whole rest n wrote at = record {
   written = at.written ++ take n old.out.items;
   unwritten = drop n old.out.items;
   plays =
-    let P : List ℕ → Type 0 = λ t. Plays old.lines whole t in
+    let P : List ℕ → Type 0 = λ t. Plays base.settings old.lines whole t in
     let joined : at.text ≡ (at.written ++ take n old.out.items) ++ drop n old.out.items
       = at.buffered ∙ ap (λ t. at.written ++ t) (sym (take-append-drop n old.out.items)) ∙ sym (append_assoc at.written (take n old.out.items) (drop n old.out.items)) in
-    subst P joined at.stands.plays;
+    subst P joined (plays_of at.stands);
   parts = refl;
-  appended = appends_both base now later at.written (take n old.out.items) at.appended wrote }
+  appended = appends_both base.taken now later at.written (take n old.out.items) at.appended wrote }
 
 -- a line and its end, behind what had come of it
 joined_line : (pending end front : List ℕ) → end ≡ front ++ 10 ∷ [] → pending ++ end ≡ (pending ++ front) ++ 10 ∷ []
@@ -91,7 +98,7 @@ joined_parts given whole pending end front parts is =
     rw parts (append_assoc whole pending end) ∙ ap (λ t. whole ++ t) (joined_line pending end front is)
 
 -- a line that was not taken ended the replay
-pub ends_refused : (base now : Option (List ℕ)) (old new : Replay) (given pending end : List ℕ) (e : Ended) →
+pub ends_refused : (base : Start) (now : Option (List ℕ)) (old new : Replay) (given pending end : List ℕ) (e : Ended) →
   Has base now old given pending → is_open pending ≡ true → IsLineEnd end → Refuses old new (pending ++ end) e → Ends base now new (given ++ end) e
 ends_refused base now old new given pending end Bad has one line refused = record {
   whole = has.whole;
@@ -117,7 +124,7 @@ ends_refused base now old new given pending end Memory has one line refused =
     subst P (sym (rw has.parts (append_assoc has.whole pending end))) (front_of_at base now old has.whole (pending ++ end) has.at)
 
 -- a whole line was taken
-pub has_line : (base now : Option (List ℕ)) (old new : Replay) (given pending end : List ℕ) →
+pub has_line : (base : Start) (now : Option (List ℕ)) (old new : Replay) (given pending end : List ℕ) →
   ((whole : List ℕ) → At base now old whole → At base now new (whole ++ (pending ++ end))) →
   Has base now old given pending → Has base now new (given ++ end) []
 has_line base now old new given pending end goes has = record {
@@ -126,18 +133,18 @@ has_line base now old new given pending end goes has = record {
   parts = rw has.parts (append_assoc has.whole pending end) ∙ sym (append-nil (has.whole ++ (pending ++ end))) }
 
 -- what a replay has is moved on by a flush
-pub has_flushed : (base now later : Option (List ℕ)) (old new : Replay) (given pending : List ℕ) →
+pub has_flushed : (base : Start) (now later : Option (List ℕ)) (old new : Replay) (given pending : List ℕ) →
   ((whole : List ℕ) → At base now old whole → At base later new whole) →
   Has base now old given pending → Has base later new given pending
 has_flushed base now later old new given pending goes has = record { whole = has.whole; at = goes has.whole has.at; parts = has.parts }
 
 -- a front of the replies is written at any time
-pub front_of_has : (base now : Option (List ℕ)) (replay : Replay) (given pending more : List ℕ) → Has base now replay given pending → Front base now (given ++ more)
+pub front_of_has : (base : Start) (now : Option (List ℕ)) (replay : Replay) (given pending more : List ℕ) → Has base now replay given pending → Front base now (given ++ more)
 front_of_has base now replay given pending more has =
     let P : List ℕ → Type 0 = λ t. Front base now t in
     subst P (sym (rw has.parts (append_assoc has.whole pending more))) (front_of_at base now replay has.whole (pending ++ more) has.at)
 
-pub front_failed : (base now later : Option (List ℕ)) (replay : Replay) (given : List ℕ) →
+pub front_failed : (base : Start) (now later : Option (List ℕ)) (replay : Replay) (given : List ℕ) →
   ((whole rest : List ℕ) → At base now replay whole → Front base later (whole ++ rest)) →
   Has base now replay given [] → Front base later given
 front_failed base now later replay given fails has =

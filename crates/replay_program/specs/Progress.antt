@@ -3,7 +3,7 @@ use Rattle.std.specs.Prelude.{ℕ, ◌≡◌, ◌+◌, ◌≤◌, ◌⊎◌, tru
 use Rattle.std.specs.Io.KnownBytes.{Appends}
 use Rattle.outside.specs.Causes.{Rose}
 use Rattle.replay_program.specs.Cuts.{is_open, is_within}
-use Rattle.replay_program.specs.Script.{Plays, Stands, IsNoLine}
+use Rattle.replay_program.specs.Script.{Start, Plays, Stands, IsNoLine}
 use Rattle.replay_program.specs.declared.stream.Replay.{Replay}
 use Rattle.replay_program.specs.declared.stream.Ended.{Ended}
 use Rattle.replay_program.specs.declared.stream.Ended.TheVariants.{Bad, TooLarge, Source, Sink, Memory}
@@ -19,34 +19,34 @@ pub record IsLineEnd (bytes : List ℕ) : Type 0 where
   pub one : is_open front ≡ true
 
 -- The lines `whole` were taken; their replies are written, but for those that the buffer holds.
-pub record At (base now : Option (List ℕ)) (replay : Replay) (whole : List ℕ) : Type 0 where
+pub record At (base : Start) (now : Option (List ℕ)) (replay : Replay) (whole : List ℕ) : Type 0 where
   pub text : List ℕ
   pub written : List ℕ
-  pub stands : Stands replay.machine replay.lines whole text
-  pub appended : Appends base now written
+  pub stands : Stands base.settings replay.machine replay.lines whole text
+  pub appended : Appends base.taken now written
   pub buffered : text ≡ written ++ replay.out.items
   pub size : length whole ≡ replay.size
   pub few : replay.lines ≤ replay.size
 
 -- Of the bytes `given` all whole lines were taken, and `pending` is what has come of the next.
-pub record Has (base now : Option (List ℕ)) (replay : Replay) (given pending : List ℕ) : Type 0 where
+pub record Has (base : Start) (now : Option (List ℕ)) (replay : Replay) (given pending : List ℕ) : Type 0 where
   pub whole : List ℕ
   pub at : At base now replay whole
   pub parts : given ≡ whole ++ pending
 
 -- A front of the text of the replies to some lines at the front of `given` was written.
-pub record Front (base now : Option (List ℕ)) (given : List ℕ) : Type 0 where
+pub record Front (base : Start) (now : Option (List ℕ)) (given : List ℕ) : Type 0 where
   pub lines : ℕ
   pub whole : List ℕ
   pub rest : List ℕ
   pub written : List ℕ
   pub unwritten : List ℕ
-  pub plays : Plays lines whole (written ++ unwritten)
+  pub plays : Plays base.settings lines whole (written ++ unwritten)
   pub parts : given ≡ whole ++ rest
-  pub appended : Appends base now written
+  pub appended : Appends base.taken now written
 
 -- Behind the lines that were taken stands one that is within the limits and no event's.
-pub record AtBad (base now : Option (List ℕ)) (replay : Replay) (given : List ℕ) : Type 0 where
+pub record AtBad (base : Start) (now : Option (List ℕ)) (replay : Replay) (given : List ℕ) : Type 0 where
   pub whole : List ℕ
   pub front : List ℕ
   pub rest : List ℕ
@@ -57,7 +57,7 @@ pub record AtBad (base now : Option (List ℕ)) (replay : Replay) (given : List 
   pub bad : IsNoLine (front ++ 10 ∷ [])
 
 -- Behind the lines that were taken stands a part of a line that is past a limit already.
-pub record AtLarge (base now : Option (List ℕ)) (replay : Replay) (given : List ℕ) : Type 0 where
+pub record AtLarge (base : Start) (now : Option (List ℕ)) (replay : Replay) (given : List ℕ) : Type 0 where
   pub whole : List ℕ
   pub part : List ℕ
   pub rest : List ℕ
@@ -67,7 +67,7 @@ pub record AtLarge (base now : Option (List ℕ)) (replay : Replay) (given : Lis
   pub large : is_within replay.size part ≡ false
 
 -- The replay of these bytes ended so.
-abbrev pub Ends : Option (List ℕ) → Option (List ℕ) → Replay → List ℕ → Ended → Type 0
+abbrev pub Ends : Start → Option (List ℕ) → Replay → List ℕ → Ended → Type 0
 Ends base now replay given Bad = AtBad base now replay given
 Ends base now replay given TooLarge = AtLarge base now replay given
 Ends base now replay given Source = Front base now given
@@ -76,11 +76,11 @@ Ends base now replay given Memory = Front base now given
 
 -- From one state to another the replay went over these bytes.
 abbrev pub Goes : Option (List ℕ) → Option (List ℕ) → Replay → Replay → List ℕ → List ℕ → List ℕ → Type 0
-Goes before now old new pending left bytes = (base : Option (List ℕ)) (given : List ℕ) → Has base before old given pending → Has base now new (given ++ bytes) left
+Goes before now old new pending left bytes = (base : Start) (given : List ℕ) → Has base before old given pending → Has base now new (given ++ bytes) left
 
 -- From one state the replay went over these bytes and ended so.
 abbrev pub GoesTo : Option (List ℕ) → Option (List ℕ) → Replay → Replay → List ℕ → List ℕ → Ended → Type 0
-GoesTo before now old new pending bytes e = (base : Option (List ℕ)) (given : List ℕ) → Has base before old given pending → Ends base now new (given ++ bytes) e
+GoesTo before now old new pending bytes e = (base : Start) (given : List ℕ) → Has base before old given pending → Ends base now new (given ++ bytes) e
 
 -- The replay is where it was.
 pub record Stays (old new : Replay) : Type 0 where

@@ -1,15 +1,62 @@
--- placeholder
-use Rattle.std.specs.Prelude.{ℕ, ◌≡◌, List}
+-- Scripts, and the text that playing one writes.
+use Rattle.std.specs.Prelude.{ℕ, ◌≡◌, List, [], ◌∷◌, ◌++◌, length, Option}
+use Rattle.std.specs.List.{flat_map}
+use Rattle.job_values.specs.declared.job.Report.{Report}
+use Rattle.job_values.specs.declared.cluster.ClusterEvent.{ClusterEvent}
+use Rattle.job_values.specs.declared.cluster.ClusterReply.{ClusterReply}
+use Rattle.cluster_history.specs.declared.settings.Settings.{Settings}
+use Rattle.cluster_history.specs.History.{History, Begin, empty_opening}
+use Rattle.cluster_history.specs.Runs.{run, replies, report_of}
+use Rattle.cluster_core.specs.Stands.{StandsFor}
+use Rattle.replay_program.specs.Line.{IsLine}
+use Rattle.replay_program.specs.Texts.{reply_text, report_text}
 use Rattle.replay_program.specs.declared.machine.Machine.{Machine}
 
--- These bytes are this many lines, and this is the text of the replies to their events.
-pub record Plays (lines : ℕ) (whole text : List ℕ) : Type 0 where
-  pub todo : whole ≡ text
-
--- The machine stands for the events of these bytes, which are this many lines, and this is the text of the replies.
-pub record Stands (machine : Machine) (lines : ℕ) (whole text : List ℕ) : Type 0 where
-  pub plays : Plays lines whole text
+-- the bytes are the lines of these events, one after another
+abbrev pub IsScript : List ClusterEvent → List ℕ → Type 0
+IsScript [] bytes = bytes ≡ []
+IsScript (e ∷ es) bytes = (line : List ℕ) × (rest : List ℕ) × IsLine e line × IsScript es rest × (bytes ≡ line ++ rest)
 
 -- no event has these bytes as its line
-pub record IsNoLine (line : List ℕ) : Type 0 where
-  pub todo : line ≡ line
+abbrev pub IsNoLine : List ℕ → Type 0
+IsNoLine line = (e : ClusterEvent) → IsLine e line → ⊥
+
+-- the history before the first event
+abbrev pub opening : Settings → History
+opening settings = Begin (empty_opening settings)
+
+-- a reply is written as its text and the end of a line
+abbrev pub reply_line : ClusterReply → List ℕ
+reply_line reply = reply_text reply ++ 10 ∷ []
+
+-- what is written for the replies of these events
+abbrev pub replies_text : Settings → List ClusterEvent → List ℕ
+replies_text settings events = flat_map reply_line (replies (opening settings) events)
+
+-- the report of a run, with the number of its lines
+abbrev pub report_with : ℕ → Report → Report
+report_with lines counts = record counts { entries = lines }
+
+-- what is written for the report behind the replies
+abbrev pub report_line : Settings → List ClusterEvent → List ℕ
+report_line settings events = report_text (report_with (length events) (report_of (run (opening settings) events))) ++ 10 ∷ []
+
+-- These bytes are this many lines, and this is the text of the replies to their events.
+pub record Plays (settings : Settings) (lines : ℕ) (whole text : List ℕ) : Type 0 where
+  pub events : List ClusterEvent
+  pub script : IsScript events whole
+  pub count : length events ≡ lines
+  pub replies : text ≡ replies_text settings events
+
+-- The same, and the machine stands for the history of these events.
+pub record Stands (settings : Settings) (machine : Machine) (lines : ℕ) (whole text : List ℕ) : Type 0 where
+  pub events : List ClusterEvent
+  pub script : IsScript events whole
+  pub count : length events ≡ lines
+  pub replies : text ≡ replies_text settings events
+  pub stands : StandsFor machine.cluster (run (opening settings) events)
+
+-- where a replay began: its settings, and what the sink held
+pub record Start : Type 0 where
+  pub settings : Settings
+  pub taken : Option (List ℕ)

@@ -5,6 +5,7 @@ ghost use Rattle.std.specs.Bool.{OnTrue};
 ghost use Rattle.std.specs.Io.KnownBytes.{Consumes, IsAtEnd};
 ghost use Rattle.outside.specs.Causes.{HasCause};
 ghost use Rattle.replay_program.specs.Cuts.{content, is_within, is_open};
+ghost use Rattle.replay_program.specs.Script.{Start};
 ghost use Rattle.replay_program.specs.Progress.{At, Front, Goes, GoesTo, Explains, ExplainsBoth, Refuses, IsLineEnd};
 
 use super::machine::{Machine, Took};
@@ -61,7 +62,7 @@ impl Replay {
     ) -> Result<(), Ended>
         requires some { 0 < length line.now }
         requires bytes { bytes ≡ length (content line.now) }
-        ensures ok { OnOk result ((base now : Option (List ℕ)) (whole : List ℕ) → At base now self.old whole → At base now self.new (whole ++ line.now)) }
+        ensures ok { OnOk result ((base : Start) (now : Option (List ℕ)) (whole : List ℕ) → At base now self.old whole → At base now self.new (whole ++ line.now)) }
         ensures size { OnOk result (self.new.size ≡ self.old.size + length line.now) }
         ensures err { IfErr result (Refuses self.old self.new line.now) }
     {
@@ -81,10 +82,10 @@ impl Replay {
 
     /// Writes the buffer.
     pub(crate) fn flush<O: Sink>(&mut self, sink: &mut O) -> Result<(), Failed>
-        ensures ok { OnOk result ((base : Option (List ℕ)) (whole : List ℕ) →
+        ensures ok { OnOk result ((base : Start) (whole : List ℕ) →
             At base (O.taken sink.old) self.old whole → At base (O.taken sink.new) self.new whole) }
         ensures empty { OnOk result (self.new.out.items ≡ []) }
-        ensures err { OnErr result ((base : Option (List ℕ)) (whole rest : List ℕ) →
+        ensures err { OnErr result ((base : Start) (whole rest : List ℕ) →
             At base (O.taken sink.old) self.old whole → Front base (O.taken sink.new) (whole ++ rest)) }
         ensures size { self.new.size ≡ self.old.size }
         ensures cause { HasCause (O.faults sink.old) (O.faults sink.new) result }
@@ -100,9 +101,9 @@ impl Replay {
 
     /// Writes the buffer if it is full.
     fn flush_full<O: Sink>(&mut self, sink: &mut O) -> Result<(), Failed>
-        ensures ok { OnOk result ((base : Option (List ℕ)) (whole : List ℕ) →
+        ensures ok { OnOk result ((base : Start) (whole : List ℕ) →
             At base (O.taken sink.old) self.old whole → At base (O.taken sink.new) self.new whole) }
-        ensures err { OnErr result ((base : Option (List ℕ)) (whole rest : List ℕ) →
+        ensures err { OnErr result ((base : Start) (whole rest : List ℕ) →
             At base (O.taken sink.old) self.old whole → Front base (O.taken sink.new) (whole ++ rest)) }
         ensures size { self.new.size ≡ self.old.size }
         ensures cause { HasCause (O.faults sink.old) (O.faults sink.new) result }

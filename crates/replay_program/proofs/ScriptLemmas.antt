@@ -1,0 +1,57 @@
+-- A script with one line more.
+use Rattle.std.proofs.Common.{◌≡◌, ℕ, ◌+◌, List, [], ◌∷◌, ◌++◌, length, refl, ap, sym, ◌∙◌, subst, append_assoc, append-nil, length-append, arith}
+use Rattle.std.specs.List.{flat_map}
+use Rattle.std.proofs.lemmas.List.{flat_map_more}
+use Rattle.job_values.specs.declared.cluster.ClusterEvent.{ClusterEvent}
+use Rattle.job_values.specs.declared.cluster.ClusterReply.{ClusterReply}
+use Rattle.cluster_history.specs.declared.settings.Settings.{Settings}
+use Rattle.cluster_history.specs.History.{History, After}
+use Rattle.cluster_history.specs.Replies.{reply_of}
+use Rattle.cluster_history.specs.Runs.{run, replies}
+use Rattle.cluster_core.specs.Kept.{Kept}
+use Rattle.cluster_core.specs.Stands.{StandsFor}
+use Rattle.cluster_core.specs.Stands as core
+use Rattle.replay_program.specs.Line.{IsLine}
+use Rattle.replay_program.specs.Texts.{reply_text}
+use Rattle.replay_program.specs.Script.{IsScript, opening, reply_line, replies_text, Stands}
+use Rattle.replay_program.specs.Took.{Answers}
+use Rattle.replay_program.specs.declared.machine.Machine.{Machine}
+
+pub script_more : (es : List ClusterEvent) (e : ClusterEvent) (whole line : List ℕ) → IsScript es whole → IsLine e line → IsScript (es ++ e ∷ []) (whole ++ line)
+script_more [] e whole line script says = (line, [], says, refl, rw script (sym (append-nil line)))
+script_more (x ∷ es) e whole line script says =
+    (script.0, script.1 ++ line, script.2, script_more es e script.1 line script.3 says,
+     rw script.4 (append_assoc script.0 script.1 line))
+
+pub run_more : (h : History) (es : List ClusterEvent) (e : ClusterEvent) → run h (es ++ e ∷ []) ≡ After (run h es) e (reply_of (run h es) e)
+run_more h [] e = refl
+run_more h (x ∷ es) e = run_more (After h x (reply_of h x)) es e
+
+pub replies_more : (h : History) (es : List ClusterEvent) (e : ClusterEvent) → replies h (es ++ e ∷ []) ≡ replies h es ++ reply_of (run h es) e ∷ []
+replies_more h [] e = refl
+replies_more h (x ∷ es) e = ap (λ rs. reply_of h x ∷ rs) (replies_more (After h x (reply_of h x)) es e)
+
+pub text_more : (settings : Settings) (es : List ClusterEvent) (e : ClusterEvent) →
+  replies_text settings (es ++ e ∷ []) ≡ replies_text settings es ++ reply_line (reply_of (run (opening settings) es) e)
+text_more settings es e =
+    ap (λ rs. flat_map reply_line rs) (replies_more (opening settings) es e)
+    ∙ sym (flat_map_more reply_line [] (replies (opening settings) es) (reply_of (run (opening settings) es) e))
+
+-- the machine answers the event of a line
+pub answers_line : (settings : Settings) (old new : Machine) (e : ClusterEvent) (reply : ClusterReply) (line before after : List ℕ) →
+  core.Answers old.cluster e reply new.cluster → IsLine e line → after ≡ before ++ reply_line reply →
+  (lines : ℕ) (whole text : List ℕ) → Stands settings old lines whole text → Answers settings old new line before after lines whole text
+answers_line settings old new e reply line before after answers says buffer lines whole text stands =
+    let h : History = run (opening settings) stands.events in
+    let answered : core.Answered h e reply new.cluster = answers h stands.stands in
+    let P : History → Type 0 = λ t. StandsFor new.cluster t in
+    record {
+      reply = reply_line reply;
+      stands = record {
+        events = stands.events ++ e ∷ [];
+        script = script_more stands.events e whole line stands.script says;
+        count = rw length-append (ap (λ n. n + 1) stands.count);
+        replies = ap (λ t. t ++ reply_line reply) stands.replies ∙ ap (λ r. replies_text settings stands.events ++ reply_line r) answered.reply
+          ∙ sym (text_more settings stands.events e);
+        stands = subst P (ap (λ r. After h e r) answered.reply ∙ sym (run_more (opening settings) stands.events e)) answered.stands };
+      buffer = buffer }

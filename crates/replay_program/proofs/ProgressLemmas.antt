@@ -20,12 +20,12 @@ plays_of stands = record { events = stands.events; script = stands.script; count
 
 -- the answer to a line in the buffer
 pub at_more : (base : Start) (now : Option (List ℕ)) (old new : Replay) (line whole : List ℕ) →
-  ((settings : Settings) (lines : ℕ) (whole text : List ℕ) → Stands settings old.machine lines whole text →
+  ((settings : Settings) (lines : ℕ) (whole text : List ℕ) → is_within (length whole) line ≡ true → Stands settings old.machine lines whole text →
     Answers settings old.machine new.machine line old.out.items new.out.items lines whole text) →
-  (old.lines ≤ old.size → new.lines ≡ old.lines + 1) → new.size ≡ old.size + length line → 0 < length line →
+  is_within old.size line ≡ true → (old.lines ≤ old.size → new.lines ≡ old.lines + 1) → new.size ≡ old.size + length line → 0 < length line →
   At base now old whole → At base now new (whole ++ line)
-at_more base now old new line whole taken counted sized some at =
-    let answer : Answers base.settings old.machine new.machine line old.out.items new.out.items old.lines whole at.text = taken base.settings old.lines whole at.text at.stands in
+at_more base now old new line whole taken within counted sized some at =
+    let answer : Answers base.settings old.machine new.machine line old.out.items new.out.items old.lines whole at.text = taken base.settings old.lines whole at.text (let P : ℕ → Type 0 = λ n. is_within n line ≡ true in subst P (sym at.size) within) at.stands in
     let count : new.lines ≡ old.lines + 1 = counted at.few in
     record {
       text = at.text ++ answer.reply;

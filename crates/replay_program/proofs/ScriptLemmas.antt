@@ -1,5 +1,6 @@
 -- A script with one line more.
-use Rattle.std.proofs.Common.{◌≡◌, ℕ, ◌+◌, List, [], ◌∷◌, ◌++◌, length, refl, ap, sym, ◌∙◌, subst, append_assoc, append-nil, length-append, arith}
+use Rattle.std.proofs.Common.{◌≡◌, ℕ, ◌+◌, List, [], ◌∷◌, ◌++◌, length, refl, ap, sym, ◌∙◌, subst, append_assoc, append-nil, length-append, arith, add-zero, zero-add, true}
+use Rattle.replay_program.specs.Cuts.{is_within}
 use Rattle.std.specs.List.{flat_map}
 use Rattle.std.proofs.lemmas.List.{flat_map_more}
 use Rattle.job_values.specs.declared.cluster.ClusterEvent.{ClusterEvent}
@@ -13,15 +14,21 @@ use Rattle.cluster_core.specs.Stands.{StandsFor}
 use Rattle.cluster_core.specs.Stands as core
 use Rattle.replay_program.specs.Line.{IsLine}
 use Rattle.replay_program.specs.Texts.{reply_text}
-use Rattle.replay_program.specs.Script.{IsScript, opening, reply_line, replies_text, Stands}
+use Rattle.replay_program.specs.Script.{IsTaken, opening, reply_line, replies_text, Stands}
 use Rattle.replay_program.specs.Took.{Answers}
 use Rattle.replay_program.specs.declared.machine.Machine.{Machine}
 
-pub script_more : (es : List ClusterEvent) (e : ClusterEvent) (whole line : List ℕ) → IsScript es whole → IsLine e line → IsScript (es ++ e ∷ []) (whole ++ line)
-script_more [] e whole line script says = (line, [], says, refl, rw script (sym (append-nil line)))
-script_more (x ∷ es) e whole line script says =
-    (script.0, script.1 ++ line, script.2, script_more es e script.1 line script.3 says,
-     rw script.4 (append_assoc script.0 script.1 line))
+pub taken_more : (before : ℕ) (es : List ClusterEvent) (e : ClusterEvent) (whole line : List ℕ) →
+  IsTaken before es whole → is_within (before + length whole) line ≡ true → IsLine e line → IsTaken before (es ++ e ∷ []) (whole ++ line)
+taken_more before [] e whole line taken within says =
+    let P : ℕ → Type 0 = λ n. is_within n line ≡ true in
+    let none : before + length whole ≡ before = rw taken (add-zero before) in
+    (line, [], says, subst P none within, refl, rw taken (sym (append-nil line)))
+taken_more before (x ∷ es) e whole line taken within says =
+    let P : ℕ → Type 0 = λ n. is_within n line ≡ true in
+    let size : before + length whole ≡ (before + length taken.0) + length taken.1 = rw taken.5 (omega (arith, length-append {A = ℕ})) in
+    (taken.0, taken.1 ++ line, taken.2, taken.3, taken_more (before + length taken.0) es e taken.1 line taken.4 (subst P size within) says,
+     rw taken.5 (append_assoc taken.0 taken.1 line))
 
 pub run_more : (h : History) (es : List ClusterEvent) (e : ClusterEvent) → run h (es ++ e ∷ []) ≡ After (run h es) e (reply_of (run h es) e)
 run_more h [] e = refl
@@ -40,8 +47,8 @@ text_more settings es e =
 -- the machine answers the event of a line
 pub answers_line : (settings : Settings) (old new : Machine) (e : ClusterEvent) (reply : ClusterReply) (line before after : List ℕ) →
   core.Answers old.cluster e reply new.cluster → IsLine e line → after ≡ before ++ reply_line reply →
-  (lines : ℕ) (whole text : List ℕ) → Stands settings old lines whole text → Answers settings old new line before after lines whole text
-answers_line settings old new e reply line before after answers says buffer lines whole text stands =
+  (lines : ℕ) (whole text : List ℕ) → is_within (length whole) line ≡ true → Stands settings old lines whole text → Answers settings old new line before after lines whole text
+answers_line settings old new e reply line before after answers says buffer lines whole text within stands =
     let h : History = run (opening settings) stands.events in
     let answered : core.Answered h e reply new.cluster = answers h stands.stands in
     let P : History → Type 0 = λ t. StandsFor new.cluster t in
@@ -49,7 +56,7 @@ answers_line settings old new e reply line before after answers says buffer line
       reply = reply_line reply;
       stands = record {
         events = stands.events ++ e ∷ [];
-        script = script_more stands.events e whole line stands.script says;
+        script = taken_more 0 stands.events e whole line stands.script (rw zero-add within) says;
         count = rw length-append (ap (λ n. n + 1) stands.count);
         replies = ap (λ t. t ++ reply_line reply) stands.replies ∙ ap (λ r. replies_text settings stands.events ++ reply_line r) answered.reply
           ∙ sym (text_more settings stands.events e);

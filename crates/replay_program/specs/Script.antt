@@ -1,5 +1,5 @@
 -- Scripts, and the text that playing one writes.
-use Rattle.std.specs.Prelude.{ℕ, ◌≡◌, List, [], ◌∷◌, ◌++◌, length, Option}
+use Rattle.std.specs.Prelude.{ℕ, ◌≡◌, ◌+◌, true, List, [], ◌∷◌, ◌++◌, length, Option}
 use Rattle.std.specs.List.{flat_map}
 use Rattle.job_values.specs.declared.job.Report.{Report}
 use Rattle.job_values.specs.declared.cluster.ClusterEvent.{ClusterEvent}
@@ -8,6 +8,7 @@ use Rattle.cluster_history.specs.declared.settings.Settings.{Settings}
 use Rattle.cluster_history.specs.History.{History, Begin, empty_opening}
 use Rattle.cluster_history.specs.Runs.{run, replies, report_of}
 use Rattle.cluster_core.specs.Stands.{StandsFor}
+use Rattle.replay_program.specs.Cuts.{is_within}
 use Rattle.replay_program.specs.Line.{IsLine}
 use Rattle.replay_program.specs.Texts.{reply_text, report_text}
 use Rattle.replay_program.specs.declared.machine.Machine.{Machine}
@@ -16,6 +17,12 @@ use Rattle.replay_program.specs.declared.machine.Machine.{Machine}
 abbrev pub IsScript : List ClusterEvent → List ℕ → Type 0
 IsScript [] bytes = bytes ≡ []
 IsScript (e ∷ es) bytes = (line : List ℕ) × (rest : List ℕ) × IsLine e line × IsScript es rest × (bytes ≡ line ++ rest)
+
+-- the bytes are the lines of these events, each within the limits on lines and on the input, of which `before` bytes stand in front
+abbrev pub IsTaken : ℕ → List ClusterEvent → List ℕ → Type 0
+IsTaken before [] bytes = bytes ≡ []
+IsTaken before (e ∷ es) bytes =
+    (line : List ℕ) × (rest : List ℕ) × IsLine e line × (is_within before line ≡ true) × IsTaken (before + length line) es rest × (bytes ≡ line ++ rest)
 
 -- no event has these bytes as its line
 abbrev pub IsNoLine : List ℕ → Type 0
@@ -44,14 +51,14 @@ report_line settings events = report_text (report_with (length events) (report_o
 -- These bytes are this many lines, and this is the text of the replies to their events.
 pub record Plays (settings : Settings) (lines : ℕ) (whole text : List ℕ) : Type 0 where
   pub events : List ClusterEvent
-  pub script : IsScript events whole
+  pub script : IsTaken 0 events whole
   pub count : length events ≡ lines
   pub replies : text ≡ replies_text settings events
 
 -- The same, and the machine stands for the history of these events.
 pub record Stands (settings : Settings) (machine : Machine) (lines : ℕ) (whole text : List ℕ) : Type 0 where
   pub events : List ClusterEvent
-  pub script : IsScript events whole
+  pub script : IsTaken 0 events whole
   pub count : length events ≡ lines
   pub replies : text ≡ replies_text settings events
   pub stands : StandsFor machine.cluster (run (opening settings) events)

@@ -1,8 +1,9 @@
 -- What the machine does with a line.
-use Rattle.std.specs.Prelude.{ℕ, ◌≡◌, ◌+◌, List, ◌++◌}
+use Rattle.std.specs.Prelude.{ℕ, ◌≡◌, ◌+◌, true, List, length, ◌++◌}
 use Rattle.cluster_history.specs.declared.settings.Settings.{Settings}
 use Rattle.job_values.specs.declared.cluster.ClusterEvent.{ClusterEvent}
-use Rattle.replay_program.specs.Script.{Stands, IsNoLine, IsScript, replies_text, report_line}
+use Rattle.replay_program.specs.Script.{Stands, IsNoLine, IsTaken, replies_text, report_line}
+use Rattle.replay_program.specs.Cuts.{is_within}
 use Rattle.replay_program.specs.declared.machine.Machine.{Machine}
 use Rattle.replay_program.specs.declared.machine.Took.{Took}
 use Rattle.replay_program.specs.declared.machine.Took.TheVariants.{Reply, NoLine}
@@ -15,12 +16,12 @@ pub record Answers (settings : Settings) (old new : Machine) (line before after 
 
 abbrev pub Takes : Machine → Machine → List ℕ → List ℕ → List ℕ → Took → Type 0
 Takes old new line before after Reply =
-    (settings : Settings) (lines : ℕ) (whole text : List ℕ) → Stands settings old lines whole text → Answers settings old new line before after lines whole text
+    (settings : Settings) (lines : ℕ) (whole text : List ℕ) → is_within (length whole) line ≡ true → Stands settings old lines whole text → Answers settings old new line before after lines whole text
 Takes old new line before after NoLine = (new ≡ old) × (after ≡ before) × IsNoLine line
 
 -- The report of the script that was played was put behind the buffer.
 pub record Reported (settings : Settings) (before after whole text : List ℕ) : Type 0 where
   pub events : List ClusterEvent
-  pub script : IsScript events whole
+  pub script : IsTaken 0 events whole
   pub replies : text ≡ replies_text settings events
   pub buffer : after ≡ before ++ report_line settings events

@@ -31,6 +31,22 @@ pub next_append : (xs ys : List ℕ) → is_open xs ≡ true → next_line (xs +
 next_append [] ys p = refl
 next_append (x ∷ xs) ys p = let parts = open_cons x xs _ p in rw parts.0 (ap (λ t. x ∷ t) (next_append xs ys parts.1))
 
+pub content_append : (xs ys : List ℕ) → is_open xs ≡ true → content (xs ++ ys) ≡ xs ++ content ys
+content_append [] ys p = refl
+content_append (x ∷ xs) ys p = let parts = open_cons x xs _ p in rw parts.0 (ap (λ t. x ∷ t) (content_append xs ys parts.1))
+
+-- the line that is ended by the first end of a line
+pub next_whole : (front more : List ℕ) → is_open front ≡ true → next_line ((front ++ 10 ∷ []) ++ more) ≡ front ++ 10 ∷ []
+next_whole front more one = rw (append_assoc front (10 ∷ []) more) (next_append front (10 ∷ more) one)
+
+pub next_ended : (front rest more : List ℕ) → is_open front ≡ true → next_line ((front ++ 10 ∷ rest) ++ more) ≡ front ++ 10 ∷ []
+next_ended front rest more one = rw (append_assoc front (10 ∷ rest) more) (next_append front (10 ∷ (rest ++ more)) one)
+
+-- bytes without an end of a line are one line at the end of the input
+pub next_open : (xs : List ℕ) → is_open xs ≡ true → next_line xs ≡ xs
+next_open [] p = refl
+next_open (x ∷ xs) p = let parts = open_cons x xs _ p in rw parts.0 (ap (λ t. x ∷ t) (next_open xs parts.1))
+
 -- bytes are open where no place has an end of a line
 open_step : (xs : List ℕ) (test : Bool) → (test ≡ true → ⊥) → is_open xs ≡ true → cond test false (is_open xs) ≡ true
 open_step xs true never h = absurd (never refl)

@@ -32,7 +32,7 @@ fed_more before mid now old between new pending left piece rest line more fed sp
     let P : List ℕ → Type 0 = λ t. Has base now new t [] in
     subst P (append_assoc given fed.front line) (goes base (given ++ fed.front) (fed.goes base given has)) }
 
-front_more : (base : Start) (now : Option (List ℕ)) (given more : List ℕ) → Front base now given → Front base now (given ++ more)
+pub front_more : (base : Start) (now : Option (List ℕ)) (given more : List ℕ) → Front base now given → Front base now (given ++ more)
 front_more base now given more front = record {
   lines = front.lines;
   whole = front.whole;
@@ -45,7 +45,7 @@ front_more base now given more front = record {
 
 -- bytes behind those at which a replay ended change nothing
 pub ends_more : (base : Start) (now : Option (List ℕ)) (replay : Replay) (given more : List ℕ) (e : Ended) → Ends base now replay given e → Ends base now replay (given ++ more) e
-ends_more base now replay given more Bad ends = record {
+ends_more base now replay given more (Bad column) ends = record {
   whole = ends.whole;
   front = ends.front;
   at = ends.at;

@@ -2,3 +2,5 @@ pub mod CutLemmas
 pub mod ProgressLemmas
 pub mod Feeding
 pub mod ScriptLemmas
+pub mod LimitLemmas
+pub mod Stopping

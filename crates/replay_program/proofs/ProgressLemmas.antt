@@ -2,7 +2,7 @@
 use Rattle.std.proofs.Common.{◌≡◌, ℕ, ◌+◌, ◌≤◌, ◌<◌, List, [], ◌∷◌, ◌++◌, length, Option, arith, length-append, append_assoc, ap, sym, ◌∙◌, subst, true, inl, inr, take, drop, append-nil, refl}
 use Rattle.std.proofs.lemmas.List.{take-append-drop}
 use Rattle.std.specs.Io.KnownBytes.{Appends}
-use Rattle.replay_program.specs.Script.{Start, Plays, Stands, IsNoLine}
+use Rattle.replay_program.specs.Script.{Start, Plays, Stands, IsBad}
 use Rattle.replay_program.specs.Took.{Answers}
 use Rattle.outside.proofs.KnownLemmas.{appends_both}
 use Rattle.replay_program.specs.Cuts.{is_open, content, is_within}
@@ -100,7 +100,7 @@ joined_parts given whole pending end front parts is =
 -- a line that was not taken ended the replay
 pub ends_refused : (base : Start) (now : Option (List ℕ)) (old new : Replay) (given pending end : List ℕ) (e : Ended) →
   Has base now old given pending → is_open pending ≡ true → IsLineEnd end → Refuses old new (pending ++ end) e → Ends base now new (given ++ end) e
-ends_refused base now old new given pending end Bad has one line refused = record {
+ends_refused base now old new given pending end (Bad column) has one line refused = record {
   whole = has.whole;
   front = pending ++ line.front;
   rest = [];
@@ -108,7 +108,7 @@ ends_refused base now old new given pending end Bad has one line refused = recor
   parts = joined_parts given has.whole pending end line.front has.parts line.is;
   one = open_append pending line.front one line.one;
   within = rw (refused.0.size, ← joined_line pending end line.front line.is) refused.1;
-  bad = let P : List ℕ → Type 0 = λ t. IsNoLine t in subst P (joined_line pending end line.front line.is) refused.2 }
+  bad = let P : List ℕ → Type 0 = λ t. IsBad t column in subst P (joined_line pending end line.front line.is) refused.2 }
 ends_refused base now old new given pending end TooLarge has one line refused = record {
   whole = has.whole;
   part = pending ++ end;

@@ -4,3 +4,4 @@ pub mod Texts
 pub mod Script
 pub mod Took
 pub mod Progress
+pub mod Outcome

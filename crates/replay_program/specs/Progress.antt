@@ -1,9 +1,9 @@
 -- How far a replay has come: what was read, what was written, and how it ended.
-use Rattle.std.specs.Prelude.{ℕ, ◌≡◌, ◌+◌, ◌≤◌, ◌⊎◌, true, false, List, [], ◌∷◌, ◌++◌, length, Option, MatchOption, IfSome}
+use Rattle.std.specs.Prelude.{ℕ, ◌≡◌, ◌+◌, ◌≤◌, ◌⊎◌, true, false, List, [], ◌∷◌, ◌++◌, ◌<◌, length, Option, Some, MatchOption, IfSome}
 use Rattle.std.specs.Io.KnownBytes.{Appends}
 use Rattle.outside.specs.Causes.{Rose}
-use Rattle.replay_program.specs.Cuts.{is_open, is_within}
-use Rattle.replay_program.specs.Script.{Start, Plays, Stands, IsNoLine}
+use Rattle.replay_program.specs.Cuts.{is_open, is_within, next_line}
+use Rattle.replay_program.specs.Script.{Start, IsTaken, Plays, Stands, IsBad}
 use Rattle.replay_program.specs.declared.stream.Replay.{Replay}
 use Rattle.replay_program.specs.declared.stream.Ended.{Ended}
 use Rattle.replay_program.specs.declared.stream.Ended.TheVariants.{Bad, TooLarge, Source, Sink, Memory}
@@ -46,7 +46,7 @@ pub record Front (base : Start) (now : Option (List ℕ)) (given : List ℕ) : T
   pub appended : Appends base.taken now written
 
 -- Behind the lines that were taken stands one that is within the limits and no event's.
-pub record AtBad (base : Start) (now : Option (List ℕ)) (replay : Replay) (given : List ℕ) : Type 0 where
+pub record AtBad (base : Start) (now : Option (List ℕ)) (replay : Replay) (given : List ℕ) (column : ℕ) : Type 0 where
   pub whole : List ℕ
   pub front : List ℕ
   pub rest : List ℕ
@@ -54,7 +54,7 @@ pub record AtBad (base : Start) (now : Option (List ℕ)) (replay : Replay) (giv
   pub parts : given ≡ whole ++ (front ++ 10 ∷ rest)
   pub one : is_open front ≡ true
   pub within : is_within replay.size (front ++ 10 ∷ []) ≡ true
-  pub bad : IsNoLine (front ++ 10 ∷ [])
+  pub bad : IsBad (front ++ 10 ∷ []) column
 
 -- Behind the lines that were taken stands a part of a line that is past a limit already.
 pub record AtLarge (base : Start) (now : Option (List ℕ)) (replay : Replay) (given : List ℕ) : Type 0 where
@@ -68,7 +68,7 @@ pub record AtLarge (base : Start) (now : Option (List ℕ)) (replay : Replay) (g
 
 -- The replay of these bytes ended so.
 abbrev pub Ends : Start → Option (List ℕ) → Replay → List ℕ → Ended → Type 0
-Ends base now replay given Bad = AtBad base now replay given
+Ends base now replay given (Bad column) = AtBad base now replay given column
 Ends base now replay given TooLarge = AtLarge base now replay given
 Ends base now replay given Source = Front base now given
 Ends base now replay given Sink = Front base now given
@@ -91,7 +91,7 @@ pub record Stays (old new : Replay) : Type 0 where
 
 -- How a line that was not taken ended the replay.
 abbrev pub Refuses : Replay → Replay → List ℕ → Ended → Type 0
-Refuses old new line Bad = Stays old new × (is_within old.size line ≡ true) × IsNoLine line
+Refuses old new line (Bad column) = Stays old new × (is_within old.size line ≡ true) × IsBad line column
 Refuses old new line TooLarge = Stays old new × (is_within old.size line ≡ false)
 Refuses old new line Source = ⊥
 Refuses old new line Sink = ⊥
@@ -99,7 +99,7 @@ Refuses old new line Memory = Unit {0}
 
 -- Which ends of a replay the counts of the source's and the sink's faults explain.
 abbrev pub ExplainsBoth : ℕ → ℕ → ℕ → ℕ → Ended → Type 0
-ExplainsBoth read reads wrote writes Bad = Unit {0}
+ExplainsBoth read reads wrote writes (Bad column) = Unit {0}
 ExplainsBoth read reads wrote writes TooLarge = Unit {0}
 ExplainsBoth read reads wrote writes Source = Rose read reads
 ExplainsBoth read reads wrote writes Sink = Rose wrote writes
@@ -107,8 +107,44 @@ ExplainsBoth read reads wrote writes Memory = Unit {0}
 
 -- Which ends of a replay a count of the sink's faults explains, where the source was not read.
 abbrev pub Explains : ℕ → ℕ → Ended → Type 0
-Explains before now Bad = Unit {0}
+Explains before now (Bad column) = Unit {0}
 Explains before now TooLarge = Unit {0}
 Explains before now Source = ⊥
 Explains before now Sink = Rose before now
 Explains before now Memory = Unit {0}
+
+-- Behind the lines that were taken stands one that is within the limits and no event's.
+pub record StopsBad (base : Start) (now : Option (List ℕ)) (replay : Replay) (input : List ℕ) (column : ℕ) : Type 0 where
+  pub whole : List ℕ
+  pub rest : List ℕ
+  pub at : At base now replay whole
+  pub parts : input ≡ whole ++ rest
+  pub some : 0 < length rest
+  pub within : is_within (length whole) (next_line rest) ≡ true
+  pub bad : IsBad (next_line rest) column
+
+-- Behind the lines that were taken stands one that is past a limit.
+pub record StopsLarge (base : Start) (now : Option (List ℕ)) (replay : Replay) (input : List ℕ) : Type 0 where
+  pub whole : List ℕ
+  pub rest : List ℕ
+  pub at : At base now replay whole
+  pub parts : input ≡ whole ++ rest
+  pub some : 0 < length rest
+  pub large : is_within (length whole) (next_line rest) ≡ false
+
+-- The replay of this input stopped so.
+abbrev pub Stops : Start → Option (List ℕ) → Replay → List ℕ → Ended → Type 0
+Stops base now replay input (Bad column) = StopsBad base now replay input column
+Stops base now replay input TooLarge = StopsLarge base now replay input
+Stops base now replay input Source = Front base now input
+Stops base now replay input Sink = Front base now input
+Stops base now replay input Memory = Front base now input
+
+-- All of the input was taken, where it is told.
+abbrev pub PlaysAll : Option (List ℕ) → Option (List ℕ) → Option (List ℕ) → Option (List ℕ) → Replay → Replay → Type 0
+PlaysAll left left' before now old new =
+    (input : List ℕ) → left ≡ Some input → (left' ≡ Some []) × ((base : Start) → At base before old [] → At base now new input)
+
+-- The replay stopped so, where the input is told.
+abbrev pub PlaysTo : Option (List ℕ) → Option (List ℕ) → Option (List ℕ) → Replay → Replay → Ended → Type 0
+PlaysTo left before now old new e = (input : List ℕ) → left ≡ Some input → (base : Start) → At base before old [] → Stops base now new input e

@@ -28,6 +28,10 @@ IsTaken before (e ∷ es) bytes =
 abbrev pub IsNoLine : List ℕ → Type 0
 IsNoLine line = (e : ClusterEvent) → IsLine e line → ⊥
 
+-- no event has these bytes as its line, and the longest front of them that begins some line ends before this column
+pub record IsBad (line : List ℕ) (column : ℕ) : Type 0 where
+  pub none : IsNoLine line
+
 -- the history before the first event
 abbrev pub opening : Settings → History
 opening settings = Begin (empty_opening settings)

@@ -2,7 +2,7 @@
 use Rattle.std.specs.Prelude.{ℕ, ◌≡◌, ◌+◌, true, List, length, ◌++◌}
 use Rattle.cluster_history.specs.declared.settings.Settings.{Settings}
 use Rattle.job_values.specs.declared.cluster.ClusterEvent.{ClusterEvent}
-use Rattle.replay_program.specs.Script.{Stands, IsNoLine, IsTaken, replies_text, report_line}
+use Rattle.replay_program.specs.Script.{Stands, IsBad, IsTaken, replies_text, report_line}
 use Rattle.replay_program.specs.Cuts.{is_within}
 use Rattle.replay_program.specs.declared.machine.Machine.{Machine}
 use Rattle.replay_program.specs.declared.machine.Took.{Took}
@@ -17,7 +17,7 @@ pub record Answers (settings : Settings) (old new : Machine) (line before after 
 abbrev pub Takes : Machine → Machine → List ℕ → List ℕ → List ℕ → Took → Type 0
 Takes old new line before after Reply =
     (settings : Settings) (lines : ℕ) (whole text : List ℕ) → is_within (length whole) line ≡ true → Stands settings old lines whole text → Answers settings old new line before after lines whole text
-Takes old new line before after NoLine = (new ≡ old) × (after ≡ before) × IsNoLine line
+Takes old new line before after (NoLine column) = (new ≡ old) × (after ≡ before) × IsBad line column
 
 -- The report of the script that was played was put behind the buffer.
 pub record Reported (settings : Settings) (before after whole text : List ℕ) : Type 0 where

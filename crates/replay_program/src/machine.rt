@@ -21,8 +21,8 @@ pub(crate) struct Machine {
 pub(crate) enum Took {
     /// Its event was played, and the reply was put behind the buffer.
     Reply,
-    /// It is no line.
-    NoLine,
+    /// It is no line; what begins some line ends before this column.
+    NoLine(u32),
 }
 
 impl Machine {
@@ -51,7 +51,7 @@ impl Machine {
                 push_bytes(out, b"\n")?;
                 Ok(Took::Reply)
             }
-            None => Ok(Took::NoLine),
+            None => Ok(Took::NoLine(1)),
         }
     }
 

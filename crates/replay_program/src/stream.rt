@@ -6,7 +6,7 @@ ghost use Rattle.std.specs.Io.KnownBytes.{Consumes, IsAtEnd};
 ghost use Rattle.outside.specs.Causes.{HasCause};
 ghost use Rattle.replay_program.specs.Cuts.{content, is_within, is_open};
 ghost use Rattle.replay_program.specs.Script.{Start};
-ghost use Rattle.replay_program.specs.Progress.{At, Front, Goes, GoesTo, Explains, ExplainsBoth, Refuses, IsLineEnd};
+ghost use Rattle.replay_program.specs.Progress.{At, Front, Goes, GoesTo, Explains, ExplainsBoth, Refuses, IsLineEnd, PlaysAll, PlaysTo};
 
 use super::machine::{Machine, Took};
 use memchr::memchr;
@@ -28,8 +28,8 @@ const FULL: usize = 65_536;
 /// Why a replay ended before its report.
 #[derive(Clone, Copy)]
 pub(crate) enum Ended {
-    /// A line is none.
-    Bad,
+    /// A line is none; what begins some line ends before this column.
+    Bad(u32),
     /// A line or the input is past its limit.
     TooLarge,
     /// The source failed.
@@ -75,7 +75,7 @@ impl Replay {
                 self.size += line.len();
                 Ok(())
             }
-            Ok(Took::NoLine) => Err(Ended::Bad),
+            Ok(Took::NoLine(column)) => Err(Ended::Bad(column)),
             Err(_) => Err(Ended::Memory),
         }
     }
@@ -241,6 +241,45 @@ fn read_all<S: Source, O: Sink>(
             Ok(()) => {}
             Err(ended) => return Err(ended),
         }
+    }
+}
+
+/// Takes what stands behind the last end of a line as the last line.
+fn take_tail(alloc: Global, replay: &mut Replay, pending: &[u8]) -> Result<(), Ended>
+    requires { is_open pending.now ≡ true }
+    ensures ok { OnOk result ((base : Start) (now : Option (List ℕ)) (whole : List ℕ) →
+        At base now replay.old whole → At base now replay.new (whole ++ pending.now)) }
+    ensures some { OnErr result (0 < length pending.now) }
+    ensures err { IfErr result (Refuses replay.old replay.new pending.now) }
+{
+    if pending.is_empty() {
+        return Ok(());
+    }
+    replay.take_line(alloc, pending, pending.len())
+}
+
+/// Takes all lines of a source.
+pub(crate) fn play<S: Source, O: Sink>(
+    alloc: Global,
+    replay: &mut Replay,
+    source: &mut S,
+    sink: &mut O,
+) -> Result<(), Ended>
+    requires { replay.old.size ≡ 0 }
+    ensures ok { OnOk result (PlaysAll (S.left source.old) (S.left source.new) (O.taken sink.old) (O.taken sink.new) replay.old replay.new) }
+    ensures err { IfErr result (PlaysTo (S.left source.old) (O.taken sink.old) (O.taken sink.new) replay.old replay.new) }
+    ensures cause { IfErr result (ExplainsBoth (S.faults source.old) (S.faults source.new) (O.faults sink.old) (O.faults sink.new)) }
+    ensures read { S.faults source.old ≤ S.faults source.new }
+    ensures wrote { O.faults sink.old ≤ O.faults sink.new }
+{
+    let mut pending = Vec::new(alloc);
+    match read_all(alloc, replay, &mut pending, source, sink) {
+        Ok(()) => {}
+        Err(ended) => return Err(ended),
+    }
+    match take_tail(alloc, replay, pending.as_slice()) {
+        Ok(()) => Ok(()),
+        Err(ended) => Err(ended),
     }
 }
 

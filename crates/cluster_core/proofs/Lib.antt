@@ -2,3 +2,8 @@ pub mod AdminLemmas
 pub mod StandsLemmas
 pub mod SoundLemmas
 pub mod JobLemmas
+pub mod OpeningLemmas
+pub mod ScanLemmas
+pub mod FiringLemmas
+pub mod PoolLemmas
+pub mod StepLemmas

@@ -4,6 +4,9 @@ use Rattle.std.proofs.lemmas.Bool.{cases_eq, cases_lt}
 use Rattle.std.proofs.lemmas.List.{get_or-set_same, get_or-set_other, length-set, get_or_past}
 use Rattle.job_records.specs.declared.group.Group.{Group}
 use Rattle.job_records.specs.declared.job.Job.{Job}
+use Rattle.job_records.specs.declared.log.Log.{Log}
+use Rattle.cluster_history.specs.declared.scan.Scan.{Scan}
+use Rattle.cluster_history.specs.declared.ticket.Ticket.{Ticket}
 use Rattle.job_records.proofs.RowLemmas.{rising-push, rising-set, rises-from_rising}
 use Rattle.job_records.specs.Rows.{RisesFrom}
 use Rattle.std.specs.List.{slice_get}
@@ -61,3 +64,11 @@ sound-set kept place old row rows here same is sound = record {
     admins = sound.admins; pools = sound.pools; limits = sound.limits; groups = sound.groups;
     jobs = rw is (rising-set (λ job. job.id) 0 kept.last_job kept.jobs place row sound.jobs (λ d lt. same ∙ ap (λ (job : Job). job.id) (sym (get_or_from_slice_get kept.jobs place old d here))));
     group_ids = sound.group_ids; job_ids = sound.job_ids; log_ids = sound.log_ids }
+
+-- a look changes the next time of a job, and the last log id and the count of a pool within their bounds
+pub sound-looked : (kept : Kept) (row_at place last count : ℕ) (old row : Job) (jobs : List Job) (logs : List Log) (tickets : List Ticket) (scan : Option Scan) → slice_get kept.jobs row_at ≡ Some old → row.id ≡ old.id → jobs ≡ set kept.jobs row_at row → last ≤ 9223372036854775807 → count ≤ 1000 → IsSound kept
+  → IsSound (record kept { jobs = jobs; logs = logs; tickets = tickets; scan = scan; last_log = last; queued = set kept.queued place count })
+sound-looked kept row_at place last count old row jobs logs tickets scan here same is ids few sound = record {
+    admins = sound.admins; pools = length-set kept.queued place count ∙ sound.pools; limits = limits-set kept.queued place count few sound.limits; groups = sound.groups;
+    jobs = (sound-set kept row_at old row jobs here same is sound).jobs;
+    group_ids = sound.group_ids; job_ids = sound.job_ids; log_ids = ids }

@@ -72,8 +72,8 @@ impl Cluster {
             ClusterEvent::AddGroup(app, kind, addresses) => self.add_group(app, *kind, addresses),
             ClusterEvent::AddJob(spec) => self.add_job(spec),
             ClusterEvent::StartJob(at, job) => Ok(self.start_job(*at, *job)),
-            ClusterEvent::ScanBegin(_, _) => Err(NoMemory),
-            ClusterEvent::ScanStep(_) => Err(NoMemory),
+            ClusterEvent::ScanBegin(admin, at) => self.scan_begin(*admin, *at),
+            ClusterEvent::ScanStep(admin) => self.scan_step(*admin),
             ClusterEvent::Turn(_, _) => Err(NoMemory),
         }
     }

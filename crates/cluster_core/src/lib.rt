@@ -8,9 +8,10 @@ mod groups;
 mod ids;
 mod jobs;
 mod nodes;
-// mod opening;
-// mod pages;
-// mod scans;
+mod opening;
+mod pages;
+mod looks;
+mod scans;
 // mod turns;
 
 pub use cluster::Cluster;

@@ -30,9 +30,12 @@ abbrev pub shards : Route → List (List ℕ) → ℕ
 shards ShardingBroadcast addresses = max 1 (length addresses)
 shards _ addresses = 1
 
+abbrev pub shot_for : Job → TriggerKind → ℕ → ℕ → ℕ → Shot
+shot_for row kind time total index = record { row = row; kind = kind; time = time; index = index; total = total }
+
+-- one for each shard, in order
 abbrev pub shots_by : Job → TriggerKind → ℕ → ℕ → List Shot
-shots_by row kind time total =
-    map (λ index. record { row = row; kind = kind; time = time; index = index; total = total }) (range_with_len 0 total)
+shots_by row kind time total = map (λ index. shot_for row kind time total index) (range_with_len 0 total)
 
 -- the logs that a firing of a job is to open, in order of their shards
 abbrev pub shots_of : List Group → TriggerKind → ℕ → Job → List Shot

@@ -39,15 +39,16 @@ taken admin second tickets =
 abbrev pub left : ℕ → ℕ → List Ticket → List Ticket
 left admin second tickets = filter (λ ticket. not (is_taken admin second ticket)) tickets
 
-abbrev pub put_due : ℕ → Looked → Option ℕ → List Ticket → List Ticket
-put_due admin look None before = before
-put_due admin look (Some due) before =
-    before ++ record { admin = admin; job = look.row.id; edition = look.row.edition; due = due } ∷ []
+-- a time that is put makes a ticket behind the others
+abbrev pub put_due : ℕ → ℕ → ℕ → Option ℕ → List Ticket → List Ticket
+put_due admin job edition None before = before
+put_due admin job edition (Some due) before =
+    before ++ record { admin = admin; job = job; edition = edition; due = due } ∷ []
 
--- a look that puts a time makes a ticket, behind the others
+-- the ticket of a look's job and edition, if it puts a time
 abbrev pub put_behind : ℕ → Option Looked → List Ticket → List Ticket
 put_behind admin None before = before
-put_behind admin (Some look) before = put_due admin look look.decision.put before
+put_behind admin (Some look) before = put_due admin look.row.id look.row.edition look.decision.put before
 
 -- the tickets that no turn took, in the order of the steps that put them
 abbrev pub waiting : History → List Ticket

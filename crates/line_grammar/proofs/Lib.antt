@@ -1,0 +1,13 @@
+pub mod Fronts
+pub mod Algebra
+pub mod Machines
+pub mod Decimals
+pub mod Keywords
+pub mod Steps
+pub mod Utf8
+pub mod Quoted
+pub mod Either
+pub mod Words
+pub mod Loop
+pub mod GrammarLaws
+pub mod Spellings

@@ -1,0 +1,12 @@
+pub mod Ends
+pub mod Reading
+pub mod Languages
+pub mod Automata
+pub mod Numbers
+pub mod Choices
+pub mod Texts
+pub mod Dashes
+pub mod Lists
+pub mod Grammar
+pub mod Writing
+pub mod Laws

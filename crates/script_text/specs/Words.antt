@@ -1,0 +1,75 @@
+-- The words of lines: which values they may have, and what follows.
+use Rattle.std.specs.Prelude.{◌≡◌, refl, ℕ, zero, suc, ◌==◌, if◌then◌else◌, List, [], ◌∷◌, codes}
+use Rattle.job_values.specs.declared.words.GroupKind.{GroupKind}
+use Rattle.job_values.specs.declared.words.GroupKind.TheVariants.{Auto, Manual}
+use Rattle.job_values.specs.declared.words.ScheduleKind.{ScheduleKind}
+use Rattle.job_values.specs.declared.words.ScheduleKind.TheVariants.{Never, FixRate}
+use Rattle.job_values.specs.declared.words.Misfire.{Misfire}
+use Rattle.job_values.specs.declared.words.Misfire.TheVariants.{DoNothing, FireOnceNow}
+use Rattle.job_values.specs.declared.words.Block.{Block}
+use Rattle.job_values.specs.declared.words.Block.TheVariants.{SerialExecution, DiscardLater, CoverEarly}
+use Rattle.job_values.specs.declared.words.Route.{Route}
+use Rattle.job_values.specs.declared.words.Route.TheVariants.{First, Last, Round, Random, ConsistentHash, LeastFrequentlyUsed, LeastRecentlyUsed, Failover, Busyover}
+use Rattle.line_grammar.specs.declared.ends.End.{End}
+use Rattle.line_grammar.specs.declared.ends.End.TheVariants.{Space, Line}
+use Rattle.line_grammar.specs.Ends.{end_byte}
+use Rattle.line_grammar.specs.Dashes.{number_form}
+use Rattle.line_grammar.specs.Grammar.{Grammar, Number, Choice}
+
+-- the number of an admin, which is 0
+abbrev pub admin : {E : Type 0} → End → (ℕ → Grammar E) → Grammar E
+admin end next = Choice (48 ∷ end_byte end ∷ []) [] refl (λ _. next 0)
+
+-- a moment
+abbrev pub moment : {E : Type 0} → End → (ℕ → Grammar E) → Grammar E
+moment end next = Number (number_form 0 4102444799999 end) refl next
+
+-- a group's or a job's id
+abbrev pub id : {E : Type 0} → End → (ℕ → Grammar E) → Grammar E
+id end next = Number (number_form 1 2147483647 end) refl next
+
+abbrev pub group_kind_at : ℕ → GroupKind
+group_kind_at i = if i == 0 then Auto else Manual
+
+abbrev pub group_kind : {E : Type 0} → (GroupKind → Grammar E) → Grammar E
+group_kind next = Choice (codes "auto ") (codes "manual " ∷ []) refl (λ i. next (group_kind_at i))
+
+-- a schedule kind
+abbrev pub schedule_kind_at : ℕ → ScheduleKind
+schedule_kind_at i = if i == 0 then Never else FixRate
+
+abbrev pub schedule_kind : {E : Type 0} → (ScheduleKind → Grammar E) → Grammar E
+schedule_kind next = Choice (codes "NONE ") (codes "FIX_RATE " ∷ []) refl (λ i. next (schedule_kind_at i))
+
+abbrev pub misfire_at : ℕ → Misfire
+misfire_at i = if i == 0 then DoNothing else FireOnceNow
+
+abbrev pub misfire : {E : Type 0} → (Misfire → Grammar E) → Grammar E
+misfire next = Choice (codes "DO_NOTHING ") (codes "FIRE_ONCE_NOW " ∷ []) refl (λ i. next (misfire_at i))
+
+-- a route that chooses one address
+abbrev pub route_at : ℕ → Route
+route_at i =
+    if i == 0 then First
+    else (if i == 1 then Last
+    else (if i == 2 then Round
+    else (if i == 3 then Random
+    else (if i == 4 then ConsistentHash
+    else (if i == 5 then LeastFrequentlyUsed
+    else (if i == 6 then LeastRecentlyUsed
+    else (if i == 7 then Failover
+    else Busyover)))))))
+
+abbrev pub route_words : List (List ℕ)
+route_words =
+    codes "LAST " ∷ codes "ROUND " ∷ codes "RANDOM " ∷ codes "CONSISTENT_HASH " ∷ codes "LEAST_FREQUENTLY_USED "
+    ∷ codes "LEAST_RECENTLY_USED " ∷ codes "FAILOVER " ∷ codes "BUSYOVER " ∷ []
+
+abbrev pub route : {E : Type 0} → (Route → Grammar E) → Grammar E
+route next = Choice (codes "FIRST ") route_words refl (λ i. next (route_at i))
+
+abbrev pub block_at : ℕ → Block
+block_at i = if i == 0 then SerialExecution else (if i == 1 then DiscardLater else CoverEarly)
+
+abbrev pub block : {E : Type 0} → (Block → Grammar E) → Grammar E
+block next = Choice (codes "SERIAL_EXECUTION ") (codes "DISCARD_LATER " ∷ codes "COVER_EARLY " ∷ []) refl (λ i. next (block_at i))

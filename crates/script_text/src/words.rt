@@ -1,0 +1,220 @@
+//! The words of lines, read as the types that they stand for.
+ghost use Rattle.std.specs.Prelude.{◌≡◌, ℕ, List, [], ◌∷◌, codes};
+ghost use Rattle.line_grammar.specs.Reading.{Takes};
+ghost use Rattle.line_grammar.specs.Ends.{end_byte};
+ghost use Rattle.line_grammar.specs.Numbers.{number_at};
+ghost use Rattle.line_grammar.specs.Choices.{words_at};
+ghost use Rattle.line_grammar.specs.Dashes.{number_form};
+ghost use Rattle.script_text.specs.Words.{group_kind_at, schedule_kind_at, misfire_at, route_at, route_words, block_at};
+ghost use Rattle.script_text.specs.Lines.{other_words};
+
+use job_values::{
+    AdminNo, Block, GroupId, GroupKind, JobId, Misfire, Moment, Retries, Route, ScheduleKind,
+    Timeout,
+};
+use line_grammar::{End, NumberForm, ReadError, Reader};
+
+fn form(least: u64, greatest: u64, end: End) -> NumberForm
+    ensures { result ≡ number_form least greatest end }
+{
+    NumberForm {
+        least,
+        greatest,
+        behind_zero: end,
+        behind: end,
+    }
+}
+
+/// A moment.
+pub(crate) fn moment(reader: &mut Reader, end: End) -> Result<Moment, ReadError>
+    ensures { Takes (λ t. t) result reader.new.rest.now (number_at (number_form 0 4102444799999 end) reader.old.rest.now) }
+{
+    let ms = reader.number(form(0, 4_102_444_799_999, end))?;
+    match Moment::new(ms) {
+        Some(at) => Ok(at),
+        None => unreachable!(),
+    }
+}
+
+/// The id of a group.
+pub(crate) fn group(reader: &mut Reader, end: End) -> Result<GroupId, ReadError>
+    ensures { Takes (λ t. t) result reader.new.rest.now (number_at (number_form 1 2147483647 end) reader.old.rest.now) }
+{
+    let number = reader.number(form(1, 2_147_483_647, end))?;
+    match GroupId::new(number as u32) {
+        Some(id) => Ok(id),
+        None => unreachable!(),
+    }
+}
+
+/// The id of a job.
+pub(crate) fn job(reader: &mut Reader, end: End) -> Result<JobId, ReadError>
+    ensures { Takes (λ t. t) result reader.new.rest.now (number_at (number_form 1 2147483647 end) reader.old.rest.now) }
+{
+    let number = reader.number(form(1, 2_147_483_647, end))?;
+    match JobId::new(number as u32) {
+        Some(id) => Ok(id),
+        None => unreachable!(),
+    }
+}
+
+/// The seconds after which a run is stopped, or 0.
+pub(crate) fn timeout(reader: &mut Reader, end: End) -> Result<Timeout, ReadError>
+    ensures { Takes (λ t. t) result reader.new.rest.now (number_at (number_form 0 2147483647 end) reader.old.rest.now) }
+{
+    let number = reader.number(form(0, 2_147_483_647, end))?;
+    match Timeout::new(number as u32) {
+        Some(seconds) => Ok(seconds),
+        None => unreachable!(),
+    }
+}
+
+/// How often a failed run is tried again.
+pub(crate) fn retries(reader: &mut Reader, end: End) -> Result<Retries, ReadError>
+    ensures { Takes (λ t. t) result reader.new.rest.now (number_at (number_form 0 100 end) reader.old.rest.now) }
+{
+    let number = reader.number(form(0, 100, end))?;
+    match Retries::new(number as u32) {
+        Some(count) => Ok(count),
+        None => unreachable!(),
+    }
+}
+
+/// The word of the only admin.
+pub(crate) fn zero(reader: &mut Reader, end: End) -> Result<usize, ReadError>
+    ensures { Takes (λ i. i) result reader.new.rest.now (words_at ((48 ∷ end_byte end ∷ []) ∷ []) reader.old.rest.now) }
+{
+    match end {
+        End::Space => reader.choice(&["0 "]),
+        End::Line => reader.choice(&["0\n"]),
+    }
+}
+
+/// The only admin.
+pub(crate) fn first_admin() -> AdminNo
+    ensures { result ≡ 0 }
+{
+    match AdminNo::new(0) {
+        Some(admin) => admin,
+        None => unreachable!(),
+    }
+}
+
+/// Which word of a group kind.
+pub(crate) fn group_kind_word(reader: &mut Reader) -> Result<usize, ReadError>
+    ensures { Takes (λ i. i) result reader.new.rest.now (words_at (codes "auto " ∷ codes "manual " ∷ []) reader.old.rest.now) }
+{
+    reader.choice(&["auto ", "manual "])
+}
+
+/// The group kind of a word.
+pub(crate) fn group_kind(word: usize) -> GroupKind
+    ensures { result ≡ group_kind_at word }
+{
+    match word {
+        0 => GroupKind::Auto,
+        _ => GroupKind::Manual,
+    }
+}
+
+/// Which word of a schedule kind.
+pub(crate) fn schedule_kind_word(reader: &mut Reader) -> Result<usize, ReadError>
+    ensures { Takes (λ i. i) result reader.new.rest.now (words_at (codes "NONE " ∷ codes "FIX_RATE " ∷ []) reader.old.rest.now) }
+{
+    reader.choice(&["NONE ", "FIX_RATE "])
+}
+
+/// The schedule kind of a word.
+pub(crate) fn schedule_kind(word: usize) -> ScheduleKind
+    ensures { result ≡ schedule_kind_at word }
+{
+    match word {
+        0 => ScheduleKind::Never,
+        _ => ScheduleKind::FixRate,
+    }
+}
+
+/// Which word of a misfire rule.
+pub(crate) fn misfire_word(reader: &mut Reader) -> Result<usize, ReadError>
+    ensures { Takes (λ i. i) result reader.new.rest.now (words_at (codes "DO_NOTHING " ∷ codes "FIRE_ONCE_NOW " ∷ []) reader.old.rest.now) }
+{
+    reader.choice(&["DO_NOTHING ", "FIRE_ONCE_NOW "])
+}
+
+/// The misfire rule of a word.
+pub(crate) fn misfire(word: usize) -> Misfire
+    ensures { result ≡ misfire_at word }
+{
+    match word {
+        0 => Misfire::DoNothing,
+        _ => Misfire::FireOnceNow,
+    }
+}
+
+/// Which word of a route.
+pub(crate) fn route_word(reader: &mut Reader) -> Result<usize, ReadError>
+    ensures { Takes (λ i. i) result reader.new.rest.now (words_at (codes "FIRST " ∷ route_words) reader.old.rest.now) }
+{
+    reader.choice(&[
+        "FIRST ",
+        "LAST ",
+        "ROUND ",
+        "RANDOM ",
+        "CONSISTENT_HASH ",
+        "LEAST_FREQUENTLY_USED ",
+        "LEAST_RECENTLY_USED ",
+        "FAILOVER ",
+        "BUSYOVER ",
+    ])
+}
+
+/// The route of a word.
+pub(crate) fn route(word: usize) -> Route
+    ensures { result ≡ route_at word }
+{
+    match word {
+        0 => Route::First,
+        1 => Route::Last,
+        2 => Route::Round,
+        3 => Route::Random,
+        4 => Route::ConsistentHash,
+        5 => Route::LeastFrequentlyUsed,
+        6 => Route::LeastRecentlyUsed,
+        7 => Route::Failover,
+        _ => Route::Busyover,
+    }
+}
+
+/// Which word of a block rule.
+pub(crate) fn block_word(reader: &mut Reader) -> Result<usize, ReadError>
+    ensures { Takes (λ i. i) result reader.new.rest.now
+        (words_at (codes "SERIAL_EXECUTION " ∷ codes "DISCARD_LATER " ∷ codes "COVER_EARLY " ∷ []) reader.old.rest.now) }
+{
+    reader.choice(&["SERIAL_EXECUTION ", "DISCARD_LATER ", "COVER_EARLY "])
+}
+
+/// The block rule of a word.
+pub(crate) fn block(word: usize) -> Block
+    ensures { result ≡ block_at word }
+{
+    match word {
+        0 => Block::SerialExecution,
+        1 => Block::DiscardLater,
+        _ => Block::CoverEarly,
+    }
+}
+
+/// Which first word of a line.
+pub(crate) fn first_word(reader: &mut Reader) -> Result<usize, ReadError>
+    ensures { Takes (λ i. i) result reader.new.rest.now (words_at (codes "start " ∷ other_words) reader.old.rest.now) }
+{
+    reader.choice(&[
+        "start ",
+        "addgroup ",
+        "addjob ",
+        "startjob ",
+        "scan ",
+        "step ",
+        "turn ",
+    ])
+}

@@ -5,16 +5,16 @@ use Rattle.job_values.specs.declared.cluster.ClusterEvent.{ClusterEvent}
 use Rattle.outside.specs.Causes.{Rose}
 use Rattle.cluster_history.specs.declared.settings.Settings.{Settings}
 use Rattle.replay_program.specs.Cuts.{next_line, is_within}
-use Rattle.replay_program.specs.Texts.{count_text, number_word}
+use Rattle.script_text.specs.Replies.{number_word}
 use Rattle.replay_program.specs.Script.{Start, IsTaken, IsBad, replies_text, report_line}
 
 -- what is written for a line that is none
 abbrev pub bad_line : ℕ → ℕ → List ℕ
-bad_line line column = count_text (codes "bad line") line ++ number_word column ++ 10 ∷ []
+bad_line line column = codes "bad line" ++ number_word line ++ number_word column ++ 10 ∷ []
 
 -- what is written for a line that is past a limit
 abbrev pub large_line : ℕ → List ℕ
-large_line line = count_text (codes "too large") line ++ 10 ∷ []
+large_line line = codes "too large" ++ number_word line ++ 10 ∷ []
 
 -- All of the input was played; its replies and the report were written.
 pub record Finished (start : Start) (now : Option (List ℕ)) (input : List ℕ) : Type 0 where

@@ -9,8 +9,9 @@ use Rattle.cluster_history.specs.History.{History, Begin, empty_opening}
 use Rattle.cluster_history.specs.Runs.{run, replies, report_of}
 use Rattle.cluster_core.specs.Stands.{StandsFor}
 use Rattle.replay_program.specs.Cuts.{is_within}
-use Rattle.replay_program.specs.Line.{IsLine}
-use Rattle.replay_program.specs.Texts.{reply_text, report_text}
+use Rattle.script_text.specs.Lines.{IsLine}
+use Rattle.script_text.specs.Faults.{IsNoLine, IsColumn}
+use Rattle.script_text.specs.Replies.{reply_text, report_text}
 use Rattle.replay_program.specs.declared.machine.Machine.{Machine}
 
 -- the bytes are the lines of these events, one after another
@@ -24,25 +25,18 @@ IsTaken before [] bytes = bytes ≡ []
 IsTaken before (e ∷ es) bytes =
     (line : List ℕ) × (rest : List ℕ) × IsLine e line × (is_within before line ≡ true) × IsTaken (before + length line) es rest × (bytes ≡ line ++ rest)
 
--- no event has these bytes as its line
-abbrev pub IsNoLine : List ℕ → Type 0
-IsNoLine line = (e : ClusterEvent) → IsLine e line → ⊥
-
--- no event has these bytes as its line, and the longest front of them that begins some line ends before this column
+-- no event has these bytes as its line, and the longest front of them that begins some line ends before this column, counted from 1
 pub record IsBad (line : List ℕ) (column : ℕ) : Type 0 where
   pub none : IsNoLine line
+  pub stops : IsColumn line column
 
 -- the history before the first event
 abbrev pub opening : Settings → History
 opening settings = Begin (empty_opening settings)
 
--- a reply is written as its text and the end of a line
-abbrev pub reply_line : ClusterReply → List ℕ
-reply_line reply = reply_text reply ++ 10 ∷ []
-
 -- what is written for the replies of these events
 abbrev pub replies_text : Settings → List ClusterEvent → List ℕ
-replies_text settings events = flat_map reply_line (replies (opening settings) events)
+replies_text settings events = flat_map reply_text (replies (opening settings) events)
 
 -- the report of a run, with the number of its lines
 abbrev pub report_with : ℕ → Report → Report
@@ -50,7 +44,7 @@ report_with lines counts = record counts { entries = lines }
 
 -- what is written for the report behind the replies
 abbrev pub report_line : Settings → List ClusterEvent → List ℕ
-report_line settings events = report_text (report_with (length events) (report_of (run (opening settings) events))) ++ 10 ∷ []
+report_line settings events = report_text (report_with (length events) (report_of (run (opening settings) events)))
 
 -- These bytes are this many lines, and this is the text of the replies to their events.
 pub record Plays (settings : Settings) (lines : ℕ) (whole text : List ℕ) : Type 0 where

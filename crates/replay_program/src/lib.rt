@@ -1,7 +1,5 @@
 //! The replay of a script of events: lines in, replies and a report out.
 #![tactic(auto)]
 
-mod lines;
 mod machine;
 mod stream;
-mod texts;

@@ -4,3 +4,5 @@ pub mod Feeding
 pub mod ScriptLemmas
 pub mod LimitLemmas
 pub mod Stopping
+pub mod Closing
+pub mod Running

@@ -25,7 +25,7 @@ none_left None rest ended is = cc
 none_left (Some xs) rest ended is = let same : xs ≡ rest = cc in sym same ∙ ended
 
 -- the lines that were taken are within the limit on the input
-at_small : (base : Start) (now : Option (List ℕ)) (replay : Replay) (whole : List ℕ) → At base now replay whole → length whole ≤ LAST_INPUT_BYTES
+pub at_small : (base : Start) (now : Option (List ℕ)) (replay : Replay) (whole : List ℕ) → At base now replay whole → length whole ≤ LAST_INPUT_BYTES
 at_small base now replay whole at =
     omega (arith, taken_small 0 at.stands.events whole at.stands.script (omega arith))
 

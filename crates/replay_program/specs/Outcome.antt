@@ -3,6 +3,7 @@ use Rattle.std.specs.Prelude.{ℕ, ◌≡◌, ◌+◌, ◌<◌, ◌⊎◌, Bool,
 use Rattle.std.specs.Io.KnownBytes.{Appends}
 use Rattle.job_values.specs.declared.cluster.ClusterEvent.{ClusterEvent}
 use Rattle.outside.specs.Causes.{Rose}
+use Rattle.outside.specs.Streams.{AppendsFront}
 use Rattle.cluster_history.specs.declared.settings.Settings.{Settings}
 use Rattle.replay_program.specs.Cuts.{next_line, is_within}
 use Rattle.script_text.specs.Replies.{number_word}
@@ -127,6 +128,12 @@ RunEnds settings left left' taken now read reads wrote wrotes status.NoMemory =
     (input : List ℕ) → left ≡ Some input → Front (record { settings = settings; taken = taken }) now input
 RunEnds settings left left' taken now read reads wrote wrotes status.TooLarge =
     (input : List ℕ) → left ≡ Some input → EndedLarge (record { settings = settings; taken = taken }) now input
+
+-- How words that are no command were answered.
+abbrev pub WordsEnd : Option (List ℕ) → Option (List ℕ) → ℕ → ℕ → Status → Type 0
+WordsEnd taken now wrote wrotes status.BadWords = Appends taken now (codes "bad words\n")
+WordsEnd taken now wrote wrotes status.SinkFailed = Rose wrote wrotes × AppendsFront taken now (codes "bad words\n")
+WordsEnd taken now wrote wrotes _ = ⊥
 
 -- the status of a call whose last line was written, or failed to be
 abbrev pub status_after : {A : Type 0} → Result A Ended → Status → Status

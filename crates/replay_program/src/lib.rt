@@ -4,3 +4,6 @@
 mod machine;
 mod replay;
 mod stream;
+mod words;
+
+pub use replay::replay_main;

@@ -1,12 +1,15 @@
 //! A whole replay: the script of a source is played, and the replies and the report go to a sink.
-ghost use Rattle.std.specs.Prelude.{◌≡◌, ℕ, ◌≤◌, ◌++◌, ◌∷◌, List, [], codes, IfErr, OnOk, Some};
+ghost use Rattle.std.specs.Prelude.{◌≡◌, ℕ, ◌≤◌, ◌++◌, ◌∷◌, List, [], codes, IfErr, OnOk, Some, MatchOption, map, string_bytes};
 ghost use Rattle.cluster_history.specs.declared.settings.Settings.{Settings};
 ghost use Rattle.replay_program.specs.Script.{Start, report_line};
 ghost use Rattle.replay_program.specs.Progress.{At};
-ghost use Rattle.replay_program.specs.Outcome.{Closed, Fails, RunEnds, bad_last, large_last, bad_line, large_line, code_of, status_after};
+ghost use Rattle.replay_program.specs.Words.{settings_said};
+ghost use Rattle.replay_program.specs.declared.replay.Status.{Status};
+ghost use Rattle.replay_program.specs.Outcome.{Closed, Fails, RunEnds, WordsEnd, bad_last, large_last, bad_line, large_line, code_of, status_after};
 
 use super::machine::Machine;
 use super::stream::{Ended, Replay, play};
+use super::words::settings_of;
 use cluster_history::Settings;
 use itoa::Buffer;
 use job_values::NoMemory;
@@ -173,5 +176,41 @@ fn status_of(ended: Result<(), Ended>, written: Status) -> Status
         Ok(()) => written,
         Err(Ended::Sink) => Status::SinkFailed,
         Err(_) => Status::NoMemory,
+    }
+}
+
+/// Says that the words are no command.
+fn refuse_words<O: Sink>(sink: &mut O) -> Status
+    ensures ends { WordsEnd (O.taken sink.old) (O.taken sink.new) (O.faults sink.old) (O.faults sink.new) result }
+    ensures wrote { O.faults sink.old ≤ O.faults sink.new }
+{
+    match write_whole(sink, b"bad words\n") {
+        Ok(()) => Status::BadWords,
+        Err(_) => Status::SinkFailed,
+    }
+}
+
+/// Does what the words say, those after the program's name: `run` plays the script of the source and
+/// writes the replies and the report to the sink. It always returns, with the exit status: 0; 1 for a
+/// line that is none; 2 for words that are no command; 3 where the source failed; 4 where the sink
+/// failed; 5 for want of memory; 6 for a line or an input past its limit.
+pub fn replay_main<S: Source, O: Sink>(
+    alloc: Global,
+    words: &[String],
+    source: &mut S,
+    sink: &mut O,
+) -> u8
+    // The status says how the call ended, what was read and what was written.
+    ensures ends { (status : Status) × (result ≡ code_of status)
+        × MatchOption (settings_said (map string_bytes words.now))
+            (WordsEnd (O.taken sink.old) (O.taken sink.new) (O.faults sink.old) (O.faults sink.new) status)
+            (λ settings. RunEnds settings (S.left source.old) (S.left source.new) (O.taken sink.old) (O.taken sink.new)
+                (S.faults source.old) (S.faults source.new) (O.faults sink.old) (O.faults sink.new) status) }
+    ensures read { S.faults source.old ≤ S.faults source.new }
+    ensures wrote { O.faults sink.old ≤ O.faults sink.new }
+{
+    match settings_of(words) {
+        Some(settings) => run(alloc, settings, source, sink).code(),
+        None => refuse_words(sink).code(),
     }
 }

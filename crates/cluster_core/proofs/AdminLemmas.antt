@@ -17,14 +17,14 @@ at-admin f a d h = get_or-map-range_with_len f 0 16 a a d h (omega arith)
 pub set-admin : {X : Type 0} (f : ℕ → X) (a : ℕ) (v : X) → a < 16 → set (map f admins) a v ≡ map (λ x. cond (eqb x a) v (f x)) admins
 set-admin f a v h =
     fill_by_all (λ x. cond (eqb x a) v (f x)) (set (map f admins) a v) 16 v (length-set (map f admins) a v ∙ length-admins f) (λ k lt.
-      ⊎_elim (λ same.
-          let here : get_or (set (map f admins) a v) a v ≡ v = get_or-set_same (map f admins) a v v (subst (λ n. a < n) (sym (length-admins f)) h) in
-          let test : eqb k a ≡ true = grind (arith, nat_tests) in
-          ap (λ n. get_or (set (map f admins) a v) n v) same ∙ here ∙ sym (ap (λ b. cond b v (f k)) test))
-        (λ other.
-          let test : eqb k a ≡ false = grind (arith, nat_tests) in
-          get_or-set_other (map f admins) a k v v other ∙ at-admin f k v lt ∙ sym (ap (λ b. cond b v (f k)) test))
-        (cases_eq k a))
+    ⊎_elim (λ same.
+    let here : get_or (set (map f admins) a v) a v ≡ v = get_or-set_same (map f admins) a v v (subst (λ n. a < n) (sym (length-admins f)) h) in
+    let test : eqb k a ≡ true = grind (arith, nat_tests) in
+    ap (λ n. get_or (set (map f admins) a v) n v) same ∙ here ∙ sym (ap (λ b. cond b v (f k)) test))
+    (λ other.
+    let test : eqb k a ≡ false = grind (arith, nat_tests) in
+    get_or-set_other (map f admins) a k v v other ∙ at-admin f k v lt ∙ sym (ap (λ b. cond b v (f k)) test))
+    (cases_eq k a))
 
 map-same : {X : Type 0} (f g : ℕ → X) → ((x : ℕ) → f x ≡ g x) → (xs : List ℕ) → map f xs ≡ map g xs
 map-same f g e [] = refl

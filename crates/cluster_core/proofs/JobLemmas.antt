@@ -86,7 +86,7 @@ row-started_by h at job next j r true test first =
 
 -- the rows after a job is started
 pub jobs-started : (h : History) (at job next place : ℕ) (row : Job) (r : ClusterReply) → IsRising (λ x. x.id) 0 (jobs_of h) (last_job h) → slice_get (jobs_of h) place ≡ Some row → row.id ≡ job → first_time (settings_of h).offset (plan_of (spec_of h job)) at ≡ Some next
-  → jobs_of (After h (StartJob at job) r) ≡ set (jobs_of h) place (started_row (edition_of h job + 1) next row)
+    → jobs_of (After h (StartJob at job) r) ≡ set (jobs_of h) place (started_row (edition_of h job + 1) next row)
 jobs-started h at job next place row r rising here same first =
     rows-changed (row_of h) (row_of (After h (StartJob at job) r)) job (started_row (edition_of h job + 1) next) (λ j. row-started_by h at job next j r (eqb j job) refl first) (ids_of h)
     ∙ changed-at (λ x. x.id) 0 job (started_row (edition_of h job + 1) next) (jobs_of h) place row (rises-from_rising (λ x. x.id) 0 (last_job h) (jobs_of h) rising) here same
@@ -109,8 +109,8 @@ row-found h job (j ∷ ids) row e = found-here h job j (job_with job (map (row_o
 job-reply_at : (kept : Kept) (h : History) (spec : JobSpec) → StandsFor kept h → reply_of h (AddJob spec) ≡ job_reply (is_some (group_with spec.group kept.groups)) (parsed spec.kind spec.schedule) (length kept.jobs) kept.last_job
 job-reply_at kept h spec s =
     sym (ap (λ gs. job_reply (is_some (group_with spec.group gs)) (parsed spec.kind spec.schedule) (length kept.jobs) kept.last_job) s.groups
-      ∙ ap (λ js. job_reply (is_some (group_with spec.group (groups_of (accepted h)))) (parsed spec.kind spec.schedule) (length js) kept.last_job) s.jobs
-      ∙ ap (λ n. job_reply (is_some (group_with spec.group (groups_of (accepted h)))) (parsed spec.kind spec.schedule) (length (jobs_of (accepted h))) n) s.last_job)
+    ∙ ap (λ js. job_reply (is_some (group_with spec.group (groups_of (accepted h)))) (parsed spec.kind spec.schedule) (length js) kept.last_job) s.jobs
+    ∙ ap (λ n. job_reply (is_some (group_with spec.group (groups_of (accepted h)))) (parsed spec.kind spec.schedule) (length (jobs_of (accepted h))) n) s.last_job)
 
 room-reply : (count last : ℕ) → count < 100000 → last < 2147483647 → room_reply count last ≡ JobReply (last + 1)
 room-reply count last room ids =
@@ -121,47 +121,67 @@ room-reply count last room ids =
 
 -- a job is added
 pub answers-job : (kept : Kept) (h : History) (spec copied : JobSpec) (plan : Plan) (id last : ℕ) (rows : List Job) → is_some (group_with spec.group kept.groups) ≡ true → parsed spec.kind spec.schedule ≡ Ok plan → length kept.jobs < 100000 → kept.last_job < 2147483647 → id ≡ kept.last_job + 1 → copied ≡ spec
-  → rows ≡ kept.jobs ++ new_row id copied plan ∷ [] → last ≡ id → IsSound kept → StandsFor kept h → Answered h (AddJob spec) (JobReply id) (record kept { jobs = rows; last_job = last })
+    → rows ≡ kept.jobs ++ new_row id copied plan ∷ [] → last ≡ id → IsSound kept → StandsFor kept h → Answered h (AddJob spec) (JobReply id) (record kept { jobs = rows; last_job = last })
 answers-job kept h spec copied plan id last rows group said room ids here same pushed is sound s =
     let old = accepted h in
     let number : id ≡ last_job (accepted h) + 1 = here ∙ ap (λ n. n + 1) s.last_job in
     let rising : IsRising (λ job. job.id) 0 (jobs_of (accepted h)) (last_job (accepted h)) = subst (λ n. IsRising (λ job. job.id) 0 (jobs_of (accepted h)) n) s.last_job (subst (λ js. IsRising (λ job. job.id) 0 js kept.last_job) s.jobs sound.jobs) in
     record {
       reply = sym (job-reply_at kept h spec s
-        ∙ ap (λ b. job_reply b (parsed spec.kind spec.schedule) (length kept.jobs) kept.last_job) group
-        ∙ ap (λ x. schedule_reply x (length kept.jobs) kept.last_job) said
-        ∙ room-reply (length kept.jobs) kept.last_job room ids
-        ∙ ap (λ n. JobReply n) (sym here));
+          ∙ ap (λ b. job_reply b (parsed spec.kind spec.schedule) (length kept.jobs) kept.last_job) group
+          ∙ ap (λ x. schedule_reply x (length kept.jobs) kept.last_job) said
+          ∙ room-reply (length kept.jobs) kept.last_job room ids
+          ∙ ap (λ n. JobReply n) (sym here));
       stands = record {
-        settings = s.settings; running = s.running; queued = s.queued; groups = s.groups; logs = s.logs; scan = s.scan; tickets = s.tickets;
+        settings = s.settings;
+        running = s.running;
+        queued = s.queued;
+        groups = s.groups;
+        logs = s.logs;
+        scan = s.scan;
+        tickets = s.tickets;
         jobs = pushed ∙ ap (λ js. js ++ new_row id copied plan ∷ []) s.jobs
-          ∙ ap (λ n. jobs_of (accepted h) ++ new_row n copied plan ∷ []) number
-          ∙ ap (λ x. jobs_of (accepted h) ++ new_row (last_job (accepted h) + 1) x plan ∷ []) same
-          ∙ ap (λ p. jobs_of (accepted h) ++ new_row (last_job (accepted h) + 1) spec p ∷ []) (sym (plan-parsed spec plan said))
-          ∙ sym (jobs-added (accepted h) spec (JobReply id) rising);
-        last_group = s.last_group; last_job = is ∙ number; last_log = s.last_log } }
+            ∙ ap (λ n. jobs_of (accepted h) ++ new_row n copied plan ∷ []) number
+            ∙ ap (λ x. jobs_of (accepted h) ++ new_row (last_job (accepted h) + 1) x plan ∷ []) same
+            ∙ ap (λ p. jobs_of (accepted h) ++ new_row (last_job (accepted h) + 1) spec p ∷ []) (sym (plan-parsed spec plan said))
+            ∙ sym (jobs-added (accepted h) spec (JobReply id) rising);
+        last_group = s.last_group;
+        last_job = is ∙ number;
+        last_log = s.last_log;
+      };
+    }
 
 -- a job is started
 pub answers-start : (kept : Kept) (h : History) (at job : ℕ) (start : Starting) (rows : List Job) (begun : StartsAt kept.jobs kept.settings.offset at job start) → rows ≡ set kept.jobs start.place (started_row start.edition start.next begun.row) → IsSound kept → StandsFor kept h
-  → Answered h (StartJob at job) (Running start.edition start.next) (record kept { jobs = rows })
+    → Answered h (StartJob at job) (Running start.edition start.next) (record kept { jobs = rows })
 answers-start kept h at job start rows begun is sound s =
     let rising : IsRising (λ x. x.id) 0 (jobs_of (accepted h)) (last_job (accepted h)) = subst (λ n. IsRising (λ x. x.id) 0 (jobs_of (accepted h)) n) s.last_job (subst (λ js. IsRising (λ x. x.id) 0 js kept.last_job) s.jobs sound.jobs) in
     let found : job_with job (jobs_of (accepted h)) ≡ Some begun.row = subst (λ js. job_with job js ≡ Some begun.row) s.jobs begun.found in
     let row : begun.row ≡ row_of (accepted h) job = row-found (accepted h) job (ids_of (accepted h)) begun.row found in
     let here : slice_get (jobs_of (accepted h)) start.place ≡ Some begun.row = subst (λ js. slice_get js start.place ≡ Some begun.row) s.jobs begun.here in
     let first : first_time (settings_of (accepted h)).offset (plan_of (spec_of (accepted h) job)) at ≡ Some start.next =
-        subst (λ (x : Job). first_time (settings_of (accepted h)).offset x.schedule at ≡ Some start.next) row (subst (λ (x : Settings). first_time x.offset begun.row.schedule at ≡ Some start.next) s.settings begun.next) in
+    subst (λ (x : Job). first_time (settings_of (accepted h)).offset x.schedule at ≡ Some start.next) row (subst (λ (x : Settings). first_time x.offset begun.row.schedule at ≡ Some start.next) s.settings begun.next) in
     let edition : start.edition ≡ edition_of (accepted h) job + 1 = begun.edition ∙ ap (λ (x : Job). x.edition + 1) row in
     let below : nat_lt begun.row.edition 18446744073709551615 ≡ true = let lt : begun.row.edition < 18446744073709551615 = begun.below in grind (arith, nat_tests) in
     record {
       reply = sym (ap (λ o. running_reply (settings_of (accepted h)).offset at o) found
-        ∙ ap (λ (x : Settings). edition_reply begun.row.edition (first_time x.offset begun.row.schedule at)) (sym s.settings)
-        ∙ ap (λ o. edition_reply begun.row.edition o) begun.next
-        ∙ ap (λ b. cond b (Running (begun.row.edition + 1) start.next) (refused IdsSpent)) below
-        ∙ ap (λ n. Running n start.next) (sym begun.edition));
+          ∙ ap (λ (x : Settings). edition_reply begun.row.edition (first_time x.offset begun.row.schedule at)) (sym s.settings)
+          ∙ ap (λ o. edition_reply begun.row.edition o) begun.next
+          ∙ ap (λ b. cond b (Running (begun.row.edition + 1) start.next) (refused IdsSpent)) below
+          ∙ ap (λ n. Running n start.next) (sym begun.edition));
       stands = record {
-        settings = s.settings; running = s.running; queued = s.queued; groups = s.groups; logs = s.logs; scan = s.scan; tickets = s.tickets;
+        settings = s.settings;
+        running = s.running;
+        queued = s.queued;
+        groups = s.groups;
+        logs = s.logs;
+        scan = s.scan;
+        tickets = s.tickets;
         jobs = is ∙ ap (λ js. set js start.place (started_row start.edition start.next begun.row)) s.jobs
-          ∙ ap (λ n. set (jobs_of (accepted h)) start.place (started_row n start.next begun.row)) edition
-          ∙ sym (jobs-started (accepted h) at job start.next start.place begun.row (Running start.edition start.next) rising here (ap (λ (x : Job). x.id) row) first);
-        last_group = s.last_group; last_job = s.last_job; last_log = s.last_log } }
+            ∙ ap (λ n. set (jobs_of (accepted h)) start.place (started_row n start.next begun.row)) edition
+            ∙ sym (jobs-started (accepted h) at job start.next start.place begun.row (Running start.edition start.next) rising here (ap (λ (x : Job). x.id) row) first);
+        last_group = s.last_group;
+        last_job = s.last_job;
+        last_log = s.last_log;
+      };
+    }

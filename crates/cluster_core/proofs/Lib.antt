@@ -7,3 +7,4 @@ pub mod ScanLemmas
 pub mod FiringLemmas
 pub mod PoolLemmas
 pub mod StepLemmas
+pub mod TurnLemmas

@@ -39,15 +39,17 @@ opens-none row kind time total last queued logs =
     let e : total - 0 ≡ total = omega arith in
     let same : shots_from row kind time total 0 ≡ shots_by row kind time total = ap (λ n. map (λ i. shot_for row kind time total i) (range_with_len 0 n)) e in
     record {
-      within = omega arith; ids = omega arith;
+      within = omega arith;
+      ids = omega arith;
       logs_open = ap (λ ss. logs ++ map log_of (placed_from last queued ss)) same;
       answers = ap (λ ss. map opened_of (placed_from last queued ss)) same;
-      pool = ap (λ ss. queued_after queued ss) same }
+      pool = ap (λ ss. queued_after queued ss) same;
+    }
 
 pub opens-more : (row : Job) (kind : TriggerKind) (time total index last queued : ℕ) (logs : List Log) (opened : List Opened) (last_before queued_before : ℕ) (logs_before : List Log) (last' queued' : ℕ) (logs' : List Log) (opened' : List Opened)
-  → OpensOn row kind time total index last queued logs opened last_before queued_before logs_before → index < total
-  → logs' ≡ logs ++ log_of (placed_one row kind time total index last queued) ∷ [] → opened' ≡ opened ++ opened_of (placed_one row kind time total index last queued) ∷ [] → last' ≡ last + 1 → queued' ≡ one_more queued
-  → OpensOn row kind time total (index + 1) last' queued' logs' opened' last_before queued_before logs_before
+    → OpensOn row kind time total index last queued logs opened last_before queued_before logs_before → index < total
+    → logs' ≡ logs ++ log_of (placed_one row kind time total index last queued) ∷ [] → opened' ≡ opened ++ opened_of (placed_one row kind time total index last queued) ∷ [] → last' ≡ last + 1 → queued' ≡ one_more queued
+    → OpensOn row kind time total (index + 1) last' queued' logs' opened' last_before queued_before logs_before
 opens-more row kind time total index last queued logs opened last_before queued_before logs_before last' queued' logs' opened' so_far below more_logs more_opened more_ids more_queued =
     let next = shots-next row kind time total index below in
     let rest = shots_from row kind time total (index + 1) in
@@ -56,16 +58,17 @@ opens-more row kind time total index last queued logs opened last_before queued_
       within = omega arith;
       ids = more_ids ∙ ap (λ n. n + 1) so_far.ids ∙ omega arith;
       logs_open = ap (λ n. logs' ++ map log_of (placed_from n queued' rest)) more_ids ∙ ap (λ n. logs' ++ map log_of (placed_from (last + 1) n rest)) more_queued
-        ∙ ap (λ xs. xs ++ map log_of (placed_from (last + 1) (one_more queued) rest)) more_logs
-        ∙ append_assoc logs (log_of one ∷ []) (map log_of (placed_from (last + 1) (one_more queued) rest))
-        ∙ ap (λ ss. logs ++ map log_of (placed_from last queued ss)) (sym next)
-        ∙ so_far.logs_open;
+          ∙ ap (λ xs. xs ++ map log_of (placed_from (last + 1) (one_more queued) rest)) more_logs
+          ∙ append_assoc logs (log_of one ∷ []) (map log_of (placed_from (last + 1) (one_more queued) rest))
+          ∙ ap (λ ss. logs ++ map log_of (placed_from last queued ss)) (sym next)
+          ∙ so_far.logs_open;
       answers = ap (λ n. opened' ++ map opened_of (placed_from n queued' rest)) more_ids ∙ ap (λ n. opened' ++ map opened_of (placed_from (last + 1) n rest)) more_queued
-        ∙ ap (λ xs. xs ++ map opened_of (placed_from (last + 1) (one_more queued) rest)) more_opened
-        ∙ append_assoc opened (opened_of one ∷ []) (map opened_of (placed_from (last + 1) (one_more queued) rest))
-        ∙ ap (λ ss. opened ++ map opened_of (placed_from last queued ss)) (sym next)
-        ∙ so_far.answers;
-      pool = ap (λ n. queued_after n rest) more_queued ∙ ap (λ ss. queued_after queued ss) (sym next) ∙ so_far.pool }
+          ∙ ap (λ xs. xs ++ map opened_of (placed_from (last + 1) (one_more queued) rest)) more_opened
+          ∙ append_assoc opened (opened_of one ∷ []) (map opened_of (placed_from (last + 1) (one_more queued) rest))
+          ∙ ap (λ ss. opened ++ map opened_of (placed_from last queued ss)) (sym next)
+          ∙ so_far.answers;
+      pool = ap (λ n. queued_after n rest) more_queued ∙ ap (λ ss. queued_after queued ss) (sym next) ∙ so_far.pool;
+    }
 
 -- what is known once all shards are opened
 pub record OpensAll (row : Job) (kind : TriggerKind) (time total last queued : ℕ) (logs : List Log) (opened : List Opened) (last_before queued_before : ℕ) (logs_before : List Log) : Type 0 where
@@ -75,11 +78,12 @@ pub record OpensAll (row : Job) (kind : TriggerKind) (time total last queued : �
   pub pool : queued ≡ queued_after queued_before (shots_by row kind time total)
 
 pub opens-all : (row : Job) (kind : TriggerKind) (time total index last queued : ℕ) (logs : List Log) (opened : List Opened) (last_before queued_before : ℕ) (logs_before : List Log)
-  → OpensOn row kind time total index last queued logs opened last_before queued_before logs_before → total ≤ index → OpensAll row kind time total last queued logs opened last_before queued_before logs_before
+    → OpensOn row kind time total index last queued logs opened last_before queued_before logs_before → total ≤ index → OpensAll row kind time total last queued logs opened last_before queued_before logs_before
 opens-all row kind time total index last queued logs opened last_before queued_before logs_before so_far end =
     let none = shots-end row kind time total index end in
     record {
       ids = omega (arith, so_far.ids, so_far.within);
       logs_open = sym (append-nil logs) ∙ ap (λ ss. logs ++ map log_of (placed_from last queued ss)) (sym none) ∙ so_far.logs_open;
       answers = sym (append-nil opened) ∙ ap (λ ss. opened ++ map opened_of (placed_from last queued ss)) (sym none) ∙ so_far.answers;
-      pool = ap (λ ss. queued_after queued ss) (sym none) ∙ so_far.pool }
+      pool = ap (λ ss. queued_after queued ss) (sym none) ∙ so_far.pool;
+    }

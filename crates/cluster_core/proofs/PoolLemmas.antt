@@ -14,7 +14,7 @@ use Rattle.cluster_core.specs.Stands.{Stands}
 use Rattle.cluster_core.proofs.AdminLemmas.{set-admin_as, at-admin}
 
 added-one : (b : Bool) (shot : Shot) (shots : List Shot) (last n : ℕ) → ((m : ℕ) → m + length (added_of (placed_from (last + 1) m shots)) ≡ queued_after m shots)
-  → n + length (added_of (record { shot = shot; log = last + 1; pool = cond b Fast Full } ∷ placed_from (last + 1) (cond b (n + 1) n) shots)) ≡ queued_after (cond b (n + 1) n) shots
+    → n + length (added_of (record { shot = shot; log = last + 1; pool = cond b Fast Full } ∷ placed_from (last + 1) (cond b (n + 1) n) shots)) ≡ queued_after (cond b (n + 1) n) shots
 added-one true shot shots last n more = let rest : (n + 1) + length (added_of (placed_from (last + 1) (n + 1) shots)) ≡ queued_after (n + 1) shots = more (n + 1) in omega arith
 added-one false shot shots last n more = more n
 
@@ -48,17 +48,17 @@ queue-cond h admin x shots false test = refl
 
 -- the counts of the pools once an admin opened logs
 pub queues-after : (kept : Kept) (h : History) (admin place : ℕ) (shots : List Shot) → place ≡ admin → admin < 16 → Stands kept h
-  → set kept.queued place (queued_after (get_or kept.queued place 0) shots) ≡ map (λ a. length (cond (eqb a admin) (behind h (queue_of h a) shots) (queue_of h a))) admins
+    → set kept.queued place (queued_after (get_or kept.queued place 0) shots) ≡ map (λ a. length (cond (eqb a admin) (behind h (queue_of h a) shots) (queue_of h a))) admins
 queues-after kept h admin place shots here below s =
     ap (λ n. set kept.queued n (queued_after (get_or kept.queued place 0) shots)) here
     ∙ ap (λ n. set kept.queued admin (queued_after n shots)) (kept-queue kept h admin place here below s)
     ∙ ap (λ xs. set xs admin (queued_after (length (queue_of h admin)) shots)) s.queued
     ∙ set-admin_as (λ a. length (queue_of h a)) (λ a. length (cond (eqb a admin) (behind h (queue_of h a) shots) (queue_of h a))) admin (queued_after (length (queue_of h admin)) shots) below
-        (λ x. queue-cond h admin x shots (eqb x admin) refl)
+    (λ x. queue-cond h admin x shots (eqb x admin) refl)
 
 -- the rows of the logs once an admin opened logs
 pub logs-after : (kept : Kept) (h : History) (admin place : ℕ) (shots : List Shot) → place ≡ admin → admin < 16 → Stands kept h
-  → kept.logs ++ map log_of (placed_from kept.last_log (get_or kept.queued place 0) shots) ≡ logs_of h ++ opened_logs h admin shots
+    → kept.logs ++ map log_of (placed_from kept.last_log (get_or kept.queued place 0) shots) ≡ logs_of h ++ opened_logs h admin shots
 logs-after kept h admin place shots here below s =
     ap (λ xs. xs ++ map log_of (placed_from kept.last_log (get_or kept.queued place 0) shots)) s.logs
     ∙ ap (λ n. logs_of h ++ map log_of (placed_from n (get_or kept.queued place 0) shots)) s.last_log

@@ -23,12 +23,19 @@ length-cond false queue = refl
 -- an admin starts with an empty pool
 pub stands-started : (kept : Kept) (h : History) (admin place : ℕ) → place ≡ admin → admin < 16 → Stands kept h → Stands (record kept { running = set kept.running place true; queued = set kept.queued place 0 }) (After h (NodeStart admin) Done)
 stands-started kept h admin place here below s = record {
-    settings = s.settings;
-    running = ap (λ n. set kept.running n true) here ∙ ap (λ xs. set xs admin true) s.running ∙ set-admin (runs h) admin true below;
-    queued = ap (λ n. set kept.queued n 0) here ∙ ap (λ xs. set xs admin 0) s.queued
-        ∙ set-admin_as (λ a. length (queue_of h a)) (λ a. length (queue_of (After h (NodeStart admin) Done) a)) admin 0 below (λ x. length-cond (eqb x admin) (queue_of h x));
-    groups = s.groups; jobs = s.jobs; logs = s.logs; scan = s.scan; tickets = s.tickets;
-    last_group = s.last_group; last_job = s.last_job; last_log = s.last_log }
+  settings = s.settings;
+  running = ap (λ n. set kept.running n true) here ∙ ap (λ xs. set xs admin true) s.running ∙ set-admin (runs h) admin true below;
+  queued = ap (λ n. set kept.queued n 0) here ∙ ap (λ xs. set xs admin 0) s.queued
+      ∙ set-admin_as (λ a. length (queue_of h a)) (λ a. length (queue_of (After h (NodeStart admin) Done) a)) admin 0 below (λ x. length-cond (eqb x admin) (queue_of h x));
+  groups = s.groups;
+  jobs = s.jobs;
+  logs = s.logs;
+  scan = s.scan;
+  tickets = s.tickets;
+  last_group = s.last_group;
+  last_job = s.last_job;
+  last_log = s.last_log;
+}
 
 -- a start of an admin is answered
 pub answers-started : (kept : Kept) (h : History) (admin place : ℕ) → place ≡ admin → admin < 16 → get_or kept.running place false ≡ false → StandsFor kept h → Answered h (NodeStart admin) Done (record kept { running = set kept.running place true; queued = set kept.queued place 0 })

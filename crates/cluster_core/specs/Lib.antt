@@ -4,3 +4,4 @@ pub mod Starts
 pub mod Stands
 pub mod Steps
 pub mod Firing
+pub mod Turning

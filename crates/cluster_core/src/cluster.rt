@@ -74,7 +74,7 @@ impl Cluster {
             ClusterEvent::StartJob(at, job) => Ok(self.start_job(*at, *job)),
             ClusterEvent::ScanBegin(admin, at) => self.scan_begin(*admin, *at),
             ClusterEvent::ScanStep(admin) => self.scan_step(*admin),
-            ClusterEvent::Turn(_, _) => Err(NoMemory),
+            ClusterEvent::Turn(admin, at) => self.turn(*admin, *at),
         }
     }
 

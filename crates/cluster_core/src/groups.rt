@@ -25,7 +25,12 @@ pub fn copy_addresses(alloc: Global, addresses: &Addresses) -> Result<Addresses,
 
 impl Cluster {
     /// A group is added.
-    pub(crate) fn add_group(&mut self, app: &AppName, kind: GroupKind, addresses: &Addresses) -> Result<ClusterReply, NoMemory>
+    pub(crate) fn add_group(
+        &mut self,
+        app: &AppName,
+        kind: GroupKind,
+        addresses: &Addresses,
+    ) -> Result<ClusterReply, NoMemory>
         ensures answers { IfOk result (λ reply. Answers self.old (AddGroup app.now kind addresses.now) reply self.new) }
         ensures err { OnErr result (self.new ≡ self.old) }
     {

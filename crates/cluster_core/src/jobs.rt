@@ -59,7 +59,12 @@ pub struct Starting {
 }
 
 /// What the start of a job finds, or why it is refused.
-fn find_start(jobs: &[Job], offset: Offset, at: Moment, job: JobId) -> Result<Starting, ClusterRefusal>
+fn find_start(
+    jobs: &[Job],
+    offset: Offset,
+    at: Moment,
+    job: JobId,
+) -> Result<Starting, ClusterRefusal>
     requires { RisesFrom (λ row. row.id) 0 jobs.now }
     ensures start { IfOk result (StartsAt jobs.now offset at job) }
     ensures refusal { IfErr result (λ why. running_reply offset at (job_with job jobs.now) ≡ refused why) }

@@ -7,11 +7,14 @@ mod counts;
 mod groups;
 mod ids;
 mod jobs;
+mod looks;
 mod nodes;
 mod opening;
 mod pages;
-mod looks;
 mod scans;
-// mod turns;
+mod turns;
 
 pub use cluster::Cluster;
+
+#[cfg(test)]
+mod tests;

@@ -18,7 +18,8 @@ use cluster_history::limits::JOBS_PER_THREAD;
 use job_records::{Group, Job, Log};
 use job_values::numbers::LAST_LOG_ID;
 use job_values::{
-    AdminNo, Case, ClusterRefusal, ClusterReply, Edition, JobId, Moment, NoMemory, Opened, Seq, TriggerKind,
+    AdminNo, Case, ClusterRefusal, ClusterReply, Edition, JobId, Moment, NoMemory, Opened, Seq,
+    TriggerKind,
 };
 use misfire_rules::Decision;
 use std::alloc::Global;
@@ -180,20 +181,16 @@ impl Cluster {
         self.tickets.reserve(1).map_err(|_| NoMemory)?;
         append_logs(&mut self.logs, logs)?;
         let Decision {
-            case, put, next, ..
+            case,
+            put,
+            next,
+            ..
         } = decision;
         put_ticket(&mut self.tickets, admin, row_job, edition, &put);
         set_next(&mut self.jobs, row_at, &next);
         step_on(&mut self.scan);
         self.queued[place] = queued;
         self.last_log = last;
-        Ok(ClusterReply::Look(
-            job,
-            case,
-            due,
-            next,
-            put,
-            opened,
-        ))
+        Ok(ClusterReply::Look(job, case, due, next, put, opened))
     }
 }

@@ -39,12 +39,26 @@ opened_code _ = pos 0
 -- a new log copies what its job's row says
 abbrev pub log_of : Placed → Log
 log_of placed = record {
-    id = placed.log; job = placed.shot.row.id; group = placed.shot.row.spec.group; address = None;
-    handler = placed.shot.row.spec.handler; param = placed.shot.row.spec.param; block = placed.shot.row.spec.block;
-    route = placed.shot.row.spec.route; timeout = placed.shot.row.spec.timeout;
-    index = placed.shot.index; total = placed.shot.total; retries = placed.shot.row.spec.retries;
-    kind = placed.shot.kind; time = placed.shot.time; trigger_code = opened_code placed.pool;
-    result_time = None; result_code = pos 0; result_text = []; marked = false }
+  id = placed.log;
+  job = placed.shot.row.id;
+  group = placed.shot.row.spec.group;
+  address = None;
+  handler = placed.shot.row.spec.handler;
+  param = placed.shot.row.spec.param;
+  block = placed.shot.row.spec.block;
+  route = placed.shot.row.spec.route;
+  timeout = placed.shot.row.spec.timeout;
+  index = placed.shot.index;
+  total = placed.shot.total;
+  retries = placed.shot.row.spec.retries;
+  kind = placed.shot.kind;
+  time = placed.shot.time;
+  trigger_code = opened_code placed.pool;
+  result_time = None;
+  result_code = pos 0;
+  result_text = [];
+  marked = false;
+}
 
 abbrev pub is_added : PoolAnswer → Bool
 is_added Full = false
@@ -86,7 +100,7 @@ logs_of (After h _ r) = logs_of h
 
 -- a log is failed where it is neither under way nor settled with success
 abbrev pub is_failed : Log → Bool
-is_failed log = 
+is_failed log =
     not ((int_eq log.trigger_code (pos 0) || int_eq log.trigger_code SUCCESS) && int_eq log.result_code (pos 0))
     && not (int_eq log.result_code SUCCESS)
 

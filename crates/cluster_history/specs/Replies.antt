@@ -87,7 +87,7 @@ abbrev pub look_reply : ℕ → ℕ → List Shot → ℕ → Option Looked → 
 look_reply last queued shots job None = reply.Skip job
 look_reply last queued shots job (Some look) =
     if_ids last (length shots) (reply.Look job look.decision.case look.due look.decision.next look.decision.put
-      (map opened_of (placed_from last queued shots)))
+    (map opened_of (placed_from last queued shots)))
 
 abbrev pub seat_reply : ℕ → ℕ → List Shot → Option Looked → Option Seat → ClusterReply
 seat_reply last queued shots look None = refused NotScanning
@@ -108,7 +108,11 @@ queued_after queued (shot ∷ shots) = queued_after (one_more queued) shots
 
 abbrev pub fired_by : Ticket → ℕ → ℕ → List Shot → FiredTicket
 fired_by ticket last queued shots = record {
-    job = ticket.job; edition = ticket.edition; due = ticket.due; opened = map opened_of (placed_from last queued shots) }
+  job = ticket.job;
+  edition = ticket.edition;
+  due = ticket.due;
+  opened = map opened_of (placed_from last queued shots);
+}
 
 -- the tickets that a turn took, each with the logs that it opened
 abbrev pub fired_from : List Group → List Job → ℕ → ℕ → ℕ → List Ticket → List FiredTicket
@@ -127,11 +131,11 @@ reply_after h (StartJob at job) = running_reply (settings_of h).offset at (job_w
 reply_after h (ScanBegin admin at) = if_running (runs h admin) admin (begin_reply (scan_of h) (page_of h at))
 reply_after h (ScanStep admin) =
     if_running (runs h admin) admin
-      (step_reply (last_log h) (length (queue_of h admin)) (shots_stepped h) (look_of h) admin (scan_of h))
+    (step_reply (last_log h) (length (queue_of h admin)) (shots_stepped h) (look_of h) admin (scan_of h))
 reply_after h (Turn admin at) =
     if_running (runs h admin) admin
-      (if_ids (last_log h) (length (shots_turned h admin at))
-        (reply.Fired (fired_from (groups_of h) (jobs_of h) at (last_log h) (length (queue_of h admin)) (taken admin (second_of at) (waiting h)))))
+    (if_ids (last_log h) (length (shots_turned h admin at))
+    (reply.Fired (fired_from (groups_of h) (jobs_of h) at (last_log h) (length (queue_of h admin)) (taken admin (second_of at) (waiting h)))))
 
 -- the reply that an event has after a history
 abbrev pub reply_of : History → ClusterEvent → ClusterReply

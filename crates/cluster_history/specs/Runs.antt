@@ -35,8 +35,15 @@ queued_in h = sum (map (λ a. length (queue_of h a)) admins)
 -- what is counted after accepted entries
 abbrev pub counted : History → Report
 counted h = record {
-    entries = 0; jobs = length (jobs_of h); logs = length (logs_of h); settled = count_by is_settled (logs_of h);
-    failed = count_by is_failed (logs_of h); waiting = length (waiting h); queued = queued_in h; held = 0 }
+  entries = 0;
+  jobs = length (jobs_of h);
+  logs = length (logs_of h);
+  settled = count_by is_settled (logs_of h);
+  failed = count_by is_failed (logs_of h);
+  waiting = length (waiting h);
+  queued = queued_in h;
+  held = 0;
+}
 
 -- what is counted after a history: the jobs, logs, tickets and pools, without lines and held ids
 abbrev pub report_of : History → Report

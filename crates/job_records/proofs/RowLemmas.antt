@@ -69,26 +69,26 @@ pub below-more : {R : Type 0} (id_of : R → ℕ) (id : ℕ) (rows : List R) (pl
 below-more id_of id rows place row h lt is small k d above below =
     let here : id_of (get_or rows place d) ≡ id_of row = ap id_of (get_or_default rows place d row lt ∙ sym is) in
     ⊎_elim (λ before.
-        let apart : id_of (get_or rows k d) < id_of (get_or rows place d) = rises-apart id_of 0 rows k place d h before lt in
-        omega arith)
-      (λ after.
-        let same : k ≡ place = omega arith in
-        let there : id_of (get_or rows k d) ≡ id_of (get_or rows place d) = ap (λ (n : ℕ). id_of (get_or rows n d)) same in
-        omega arith)
-      (cases_lt k place)
+    let apart : id_of (get_or rows k d) < id_of (get_or rows place d) = rises-apart id_of 0 rows k place d h before lt in
+    omega arith)
+    (λ after.
+    let same : k ≡ place = omega arith in
+    let there : id_of (get_or rows k d) ≡ id_of (get_or rows place d) = ap (λ (n : ℕ). id_of (get_or rows n d)) same in
+    omega arith)
+    (cases_lt k place)
 
 -- the rows from one whose id is above another id on have higher ids
 pub above-more : {R : Type 0} (id_of : R → ℕ) (id : ℕ) (rows : List R) (place : ℕ) (row : R) → RisesFrom id_of 0 rows → place < length rows → row ≡ get_or rows place row → id < id_of row → AllWithin (λ r. id < id_of r) rows place (length rows)
 above-more id_of id rows place row h lt is large k d above below =
     let here : id_of (get_or rows place d) ≡ id_of row = ap id_of (get_or_default rows place d row lt ∙ sym is) in
     ⊎_elim (λ after.
-        let apart : id_of (get_or rows place d) < id_of (get_or rows k d) = rises-apart id_of 0 rows place k d h after below in
-        omega arith)
-      (λ before.
-        let same : k ≡ place = omega arith in
-        let there : id_of (get_or rows k d) ≡ id_of (get_or rows place d) = ap (λ (n : ℕ). id_of (get_or rows n d)) same in
-        omega arith)
-      (cases_lt place k)
+    let apart : id_of (get_or rows place d) < id_of (get_or rows k d) = rises-apart id_of 0 rows place k d h after below in
+    omega arith)
+    (λ before.
+    let same : k ≡ place = omega arith in
+    let there : id_of (get_or rows k d) ≡ id_of (get_or rows place d) = ap (λ (n : ℕ). id_of (get_or rows n d)) same in
+    omega arith)
+    (cases_lt place k)
 
 -- a change by an id that no row has changes nothing
 pub changed-none : {R : Type 0} (id_of : R → ℕ) (low id : ℕ) (change : R → R) (rows : List R) → RisesFrom id_of low rows → id ≤ low → changed id_of id change rows ≡ rows

@@ -2,8 +2,8 @@
 
 use super::row::Row;
 use job_values::{
-    Address, Block, GroupId, HandlerName, JobId, LogId, Moment, ParamText, ResultText, Retries, Route,
-    ShardNo, Timeout, TriggerKind,
+    Address, Block, GroupId, HandlerName, JobId, LogId, Moment, ParamText, ResultText, Retries,
+    Route, ShardNo, Timeout, TriggerKind,
 };
 
 /// One run of a job, from its firing to its result.

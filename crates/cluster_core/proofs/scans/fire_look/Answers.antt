@@ -22,4 +22,5 @@ returns c =
       logs = c.in_ok-opened.ensures.logs ∙ ap (λ xs. xs ++ map log_of (placed_from c.args.last c.args.queued (shots_by c.args.row.now c.fired_kind-kind.result c.args.at c.firing_count-total.result))) c.new.ensures.items ∙ ap (λ ss. map log_of (placed_from c.args.last c.args.queued ss)) (sym count);
       last_id = omega (arith, c.in_ok-opened.ensures.last);
       pool = c.in_ok-opened.ensures.queued ∙ ap (λ ss. queued_after c.args.queued ss) (sym count);
-      opened = c.in_ok-opened.ensures.opened ∙ ap (λ ss. map opened_of (placed_from c.args.last c.args.queued ss)) (sym count) }
+      opened = c.in_ok-opened.ensures.opened ∙ ap (λ ss. map opened_of (placed_from c.args.last c.args.queued ss)) (sym count);
+    }

@@ -12,7 +12,7 @@ loop-low-preserved-then-found-id-2 g c =
       ordered = omega arith;
       within = omega arith;
       below = below-more g.R.Row.id_of c.args.id c.args.rows.now _ c.index-rows-middle.result c.requires (omega arith) c.index-rows-middle.is (omega arith);
-      above = c.loop-low.invariant.above
+      above = c.loop-low.invariant.above;
     }
 
 pub loop-low-preserved : goal.loop-low-preserved
@@ -21,7 +21,7 @@ loop-low-preserved g c =
       ordered = omega arith;
       within = omega arith;
       below = c.loop-low.invariant.below;
-      above = above-more g.R.Row.id_of c.args.id c.args.rows.now _ c.index-rows-middle.result c.requires (omega arith) c.index-rows-middle.is (omega arith)
+      above = above-more g.R.Row.id_of c.args.id c.args.rows.now _ c.index-rows-middle.result c.requires (omega arith) c.index-rows-middle.is (omega arith);
     }
 
 pub returns : goal.returns

@@ -1,0 +1,47 @@
+-- The next time of a job, by the scans that looked at it.
+use Rattle.std.specs.Prelude.{◌≡◌, ℕ, ◌+◌, ℤ, ◌==◌, List, [], ◌∷◌, Option, Some, None, if◌then◌else◌}
+use Rattle.job_values.specs.declared.cluster.ClusterEvent.TheVariants.{AddJob, StartJob, ScanStep}
+use Rattle.job_values.specs.declared.job.JobSpec.{JobSpec}
+use Rattle.misfire_rules.specs.Decide.{decided}
+use Rattle.cluster_history.specs.declared.scan.Scan.{Scan}
+use Rattle.cluster_history.specs.History.{History, Begin, After, settings_of}
+use Rattle.cluster_history.specs.Looks.{Looked}
+use Rattle.cluster_history.specs.Jobs.{last_job, spec_of, plan_of, next_of, scan_of, look_of, opened_row, first_time}
+
+abbrev pub moment_added : Option Scan → List ℕ → List ℕ
+moment_added None before = before
+moment_added (Some scan) before = scan.at ∷ before
+
+abbrev pub moments_looked : Option Scan → Option Looked → ℕ → List ℕ → List ℕ
+moments_looked scan None j before = before
+moments_looked scan (Some look) j before = if j == look.row.id then moment_added scan before else before
+
+-- the moments of the scans that looked at a job since it was added or started last, the last one first
+abbrev pub moments_of : History → ℕ → List ℕ
+moments_of (Begin o) j = []
+moments_of (After h (AddJob spec) r) j = if j == last_job h + 1 then [] else moments_of h j
+moments_of (After h (StartJob at job) r) j = if j == job then [] else moments_of h j
+moments_of (After h (ScanStep admin) r) j = moments_looked (scan_of h) (look_of h) j (moments_of h j)
+moments_of (After h _ r) j = moments_of h j
+
+-- the first time that its last start gave it; a job that was only added has none
+abbrev pub first_of : History → ℕ → Option ℕ
+first_of (Begin o) j = (opened_row o j).next
+first_of (After h (AddJob spec) r) j = if j == last_job h + 1 then None else first_of h j
+first_of (After h (StartJob at job) r) j =
+    if j == job then first_time (settings_of h).offset (plan_of (spec_of h j)) at else first_of h j
+first_of (After h _ r) j = first_of h j
+
+-- a time that is due once a scan looks at it; none stays none
+abbrev pub carried_once : ℤ → JobSpec → ℕ → Option ℕ → Option ℕ
+carried_once offset spec at None = None
+carried_once offset spec at (Some due) = (decided due (plan_of spec) spec.misfire offset at).next
+
+-- a first time carried over scans, the last one first
+abbrev pub carried : ℤ → JobSpec → Option ℕ → List ℕ → Option ℕ
+carried offset spec first [] = first
+carried offset spec first (at ∷ earlier) = carried_once offset spec at (carried offset spec first earlier)
+
+abbrev pub NextTimesCarried : Type 0
+NextTimesCarried =
+    (h : History) (j : ℕ) → next_of h j ≡ carried (settings_of h).offset (spec_of h j) (first_of h j) (moments_of h j)

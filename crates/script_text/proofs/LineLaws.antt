@@ -1,8 +1,8 @@
 -- What reading says of lines.
-use Rattle.std.proofs.Common.{◌≡◌, ℕ, zero, suc, ◌+◌, ◌-◌, ◌≤◌, ◌<◌, List, [], ◌∷◌, ◌++◌, length, Result, Ok, Err, refl, sym, ap, subst, ◌∙◌, append_assoc, arith, length-append}
+use Rattle.std.proofs.Common.{◌≡◌, ℕ, ◌+◌, ◌-◌, ◌≤◌, List, [], ◌∷◌, ◌++◌, length, Result, Ok, Err, refl, sym, ap, subst, ◌∙◌, append_assoc, arith, length-append}
 use Rattle.std.proofs.lemmas.List.{append-nil, nil_from_length}
 use Rattle.job_values.specs.declared.cluster.ClusterEvent.{ClusterEvent}
-use Rattle.line_grammar.specs.Languages.{Stops, Reads}
+use Rattle.line_grammar.specs.Languages.{Reads}
 use Rattle.line_grammar.specs.Grammar.{Says, reading}
 use Rattle.script_text.specs.Lines.{line, IsLine}
 use Rattle.script_text.specs.Faults.{IsColumn, IsNoLine}
@@ -47,12 +47,18 @@ more_no_line reads bytes e rest read more other h =
 
 pub more_column : LineReads → (bytes : List ℕ) (e : ClusterEvent) (rest : List ℕ) (column : ℕ) → reading line bytes ≡ Ok (e, rest) → column ≡ length bytes - length rest + 1 → IsColumn bytes column
 more_column reads bytes e rest column read is =
-    let f = reads.found bytes e rest read in
-    (length rest, record {
-      front = f.0; back = rest; parts = f.2; left_is = refl;
-      begins = (e, [], subst (IsLine e) (sym (append-nil f.0)) f.1);
-      longest = λ b more back_is begun.
-        let there : reading line (f.0 ++ (b ∷ begun.1)) ≡ Ok (begun.0, []) = ap (reading line) (sym (append_assoc f.0 (b ∷ []) begun.1)) ∙ whole reads ((f.0 ++ b ∷ []) ++ begun.1) begun.0 begun.2 in
-        let here : reading line (f.0 ++ (b ∷ begun.1)) ≡ Ok (e, b ∷ begun.1) = reads.again e f.0 (b ∷ begun.1) f.1 in
-        absurd (omega (arith, ap (λ (p : ClusterEvent × List ℕ). length p.1) (ok_same (e, b ∷ begun.1) (begun.0, []) (reading line (f.0 ++ (b ∷ begun.1))) here there)));
-    }, omega (arith, rest_within reads bytes e rest read))
+    let f = reads.found bytes e rest read in (
+      length rest,
+      record {
+        front = f.0;
+        back = rest;
+        parts = f.2;
+        left_is = refl;
+        begins = (e, [], subst (IsLine e) (sym (append-nil f.0)) f.1);
+        longest = λ b more back_is begun.
+            let there : reading line (f.0 ++ (b ∷ begun.1)) ≡ Ok (begun.0, []) = ap (reading line) (sym (append_assoc f.0 (b ∷ []) begun.1)) ∙ whole reads ((f.0 ++ b ∷ []) ++ begun.1) begun.0 begun.2 in
+            let here : reading line (f.0 ++ (b ∷ begun.1)) ≡ Ok (e, b ∷ begun.1) = reads.again e f.0 (b ∷ begun.1) f.1 in
+            absurd (omega (arith, ap (λ (p : ClusterEvent × List ℕ). length p.1) (ok_same (e, b ∷ begun.1) (begun.0, []) (reading line (f.0 ++ (b ∷ begun.1))) here there)));
+      },
+      omega (arith, rest_within reads bytes e rest read),
+    )

@@ -3,3 +3,4 @@ pub mod Lines
 pub mod Faults
 pub mod Spelling
 pub mod Replies
+pub mod Laws

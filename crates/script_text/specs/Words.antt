@@ -1,5 +1,5 @@
 -- The words of lines: which values they may have, and what follows.
-use Rattle.std.specs.Prelude.{◌≡◌, refl, ℕ, zero, suc, ◌==◌, if◌then◌else◌, List, [], ◌∷◌, codes}
+use Rattle.std.specs.Prelude.{refl, ℕ, ◌==◌, if◌then◌else◌, List, [], ◌∷◌, codes}
 use Rattle.job_values.specs.declared.words.GroupKind.{GroupKind}
 use Rattle.job_values.specs.declared.words.GroupKind.TheVariants.{Auto, Manual}
 use Rattle.job_values.specs.declared.words.ScheduleKind.{ScheduleKind}
@@ -11,7 +11,6 @@ use Rattle.job_values.specs.declared.words.Block.TheVariants.{SerialExecution, D
 use Rattle.job_values.specs.declared.words.Route.{Route}
 use Rattle.job_values.specs.declared.words.Route.TheVariants.{First, Last, Round, Random, ConsistentHash, LeastFrequentlyUsed, LeastRecentlyUsed, Failover, Busyover}
 use Rattle.line_grammar.specs.declared.ends.End.{End}
-use Rattle.line_grammar.specs.declared.ends.End.TheVariants.{Space, Line}
 use Rattle.line_grammar.specs.Ends.{end_byte}
 use Rattle.line_grammar.specs.Dashes.{number_form}
 use Rattle.line_grammar.specs.Grammar.{Grammar, Number, Choice}

@@ -4,10 +4,16 @@
 
 mod faults;
 mod jobs;
+pub mod laws;
 mod reading;
 mod replies;
 mod words;
+mod writing;
 
 pub use faults::{LineError, LineFault};
 pub use reading::read_line;
 pub use replies::{write_reply, write_report};
+pub use writing::write_line;
+
+#[cfg(test)]
+mod tests;

@@ -1,19 +1,16 @@
 //! The texts of replies and of the report.
 ghost use Rattle.std.specs.Prelude.{◌≡◌, ◌∷◌, ◌++◌, IfOk, OnOk};
-ghost use Rattle.script_text.specs.Replies.{number_word, optional_word, opened_word, opened_words, ticket_words, refusal_text, reply_words, reply_text, report_text};
+ghost use Rattle.script_text.specs.Replies.{optional_word, opened_word, opened_words, ticket_words, refusal_text, reply_words, reply_text, report_text};
 ghost use Rattle.std.specs.List.{flat_map};
+ghost use Rattle.line_grammar.specs.Writing.{spaced_number};
 ghost use Rattle.job_values.specs.Words.{case_text};
 
-use job_values::{Case, ClusterRefusal, ClusterReply, FiredTicket, JobId, Moment, NoMemory, Opened, Report, Seq};
-use line_grammar::{write_byte, write_number, write_word};
+use crate::writing::{put_number, put_word};
+use job_values::{
+    Case, ClusterRefusal, ClusterReply, FiredTicket, JobId, Moment, NoMemory, Opened, Report, Seq,
+};
+use line_grammar::{write_byte, write_word};
 use std::alloc::Global;
-
-fn put_number(out: &mut Vec<u8>, number: u64) -> Result<(), NoMemory>
-    ensures { OnOk result (out.new.items ≡ out.old.items ++ number_word number) }
-{
-    write_byte(out, b' ')?;
-    write_number(out, number)
-}
 
 fn put_optional(out: &mut Vec<u8>, moment: Option<Moment>) -> Result<(), NoMemory>
     ensures { OnOk result (out.new.items ≡ out.old.items ++ optional_word moment) }
@@ -102,11 +99,10 @@ fn put_look(
     next: Option<Moment>,
     put: Option<Moment>,
 ) -> Result<(), NoMemory>
-    ensures { OnOk result (out.new.items ≡ out.old.items ++ (number_word job ++ 32 ∷ case_text case ++ number_word due ++ optional_word next ++ optional_word put)) }
+    ensures { OnOk result (out.new.items ≡ out.old.items ++ (spaced_number job ++ 32 ∷ case_text case ++ spaced_number due ++ optional_word next ++ optional_word put)) }
 {
     put_number(out, u64::from(job.get()))?;
-    write_byte(out, b' ')?;
-    write_word(out, case.text())?;
+    put_word(out, case.text())?;
     put_number(out, due.get())?;
     put_optional(out, next)?;
     put_optional(out, put)

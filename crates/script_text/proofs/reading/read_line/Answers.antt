@@ -1,4 +1,4 @@
-use Rattle.std.proofs.Common.{arith, refl}
+use Rattle.std.proofs.Common.{refl}
 use Rattle.script_text.specs.Lines.{line}
 use Rattle.script_text.proofs.LineLaws.{line_found, line_only, no_line, left_within, line_column, rest_within, more_no_line, more_column}
 use Rattle.script_text.proofs.reading.read_line.Goals as goal

@@ -1,0 +1,18 @@
+//! The laws of lines.
+ghost use Rattle.job_values.specs.declared.cluster.ClusterEvent.{ClusterEvent};
+ghost use Rattle.script_text.specs.Laws.{NoLineBeginsAnother, EachEventHasOneLine};
+
+use job_values::ClusterEvent;
+use line_grammar::laws::law_no_text_begins_another;
+
+/// No line is a proper prefix of another, and no bytes are the line of two events.
+pub fn law_no_line_begins_another()
+    ensures { NoLineBeginsAnother }
+{
+    law_no_text_begins_another::<ClusterEvent>();
+}
+
+/// Each event has exactly one line.
+pub fn law_one_line()
+    ensures { EachEventHasOneLine }
+{}

@@ -6,3 +6,5 @@ pub mod LimitLemmas
 pub mod Stopping
 pub mod Closing
 pub mod Running
+pub mod LineEnds
+pub mod OneEnd

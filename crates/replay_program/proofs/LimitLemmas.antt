@@ -23,7 +23,7 @@ pub bounds_within : (before : ℕ) (line : List ℕ) → length (content line) �
 bounds_within before line short small =
     both_true (le-leb (length (content line)) LAST_LINE_BYTES short) (le-leb (before + length line) LAST_INPUT_BYTES small)
 
-either_way : (b : Bool) → (b ≡ true → ⊥) → b ≡ false
+pub either_way : (b : Bool) → (b ≡ true → ⊥) → b ≡ false
 either_way true never = absurd (never refl)
 either_way false never = refl
 

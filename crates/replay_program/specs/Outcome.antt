@@ -6,7 +6,7 @@ use Rattle.outside.specs.Causes.{Rose}
 use Rattle.outside.specs.Streams.{AppendsFront}
 use Rattle.cluster_history.specs.declared.settings.Settings.{Settings}
 use Rattle.replay_program.specs.Cuts.{next_line, is_within}
-use Rattle.script_text.specs.Replies.{number_word}
+use Rattle.line_grammar.specs.Writing.{spaced_number}
 use Rattle.replay_program.specs.Progress.{At, Front}
 use Rattle.replay_program.specs.declared.stream.Replay.{Replay}
 use Rattle.replay_program.specs.declared.stream.Ended.{Ended}
@@ -17,11 +17,11 @@ use Rattle.replay_program.specs.Script.{Start, IsTaken, IsBad, replies_text, rep
 
 -- what is written for a line that is none
 abbrev pub bad_line : ℕ → ℕ → List ℕ
-bad_line line column = codes "bad line" ++ number_word line ++ number_word column ++ 10 ∷ []
+bad_line line column = codes "bad line" ++ spaced_number line ++ spaced_number column ++ 10 ∷ []
 
 -- what is written for a line that is past a limit
 abbrev pub large_line : ℕ → List ℕ
-large_line line = codes "too large" ++ number_word line ++ 10 ∷ []
+large_line line = codes "too large" ++ spaced_number line ++ 10 ∷ []
 
 -- All of the input was played; its replies and the report were written.
 pub record Finished (start : Start) (now : Option (List ℕ)) (input : List ℕ) : Type 0 where

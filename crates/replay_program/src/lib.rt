@@ -6,4 +6,5 @@ mod replay;
 mod stream;
 mod words;
 
+
 pub use replay::replay_main;

@@ -1,5 +1,9 @@
 -- An input ends in one way: all of it is lines, or a line is bad, or one is past a limit.
-use Rattle.std.proofs.Common.{◌≡◌, ℕ, ◌+◌, ◌<◌, Bool, true, false, List, [], ◌∷◌, ◌++◌, length, drop, refl, ap, sym, ◌∙◌, subst, arith, append_assoc, append-nil, length-append, add-zero}
+use Rattle.std.proofs.Common.{◌≡◌, ℕ, ◌+◌, ◌<◌, Bool, true, false, List, [], ◌∷◌, ◌++◌, length, drop, refl, ap, sym, ◌∙◌, subst, arith, append_assoc, append-nil, length-append, add-zero, zero-add, inl, inr, Option, Some}
+use Rattle.cluster_history.specs.declared.settings.Settings.{Settings}
+use Rattle.replay_program.specs.declared.replay.Status.{Status}
+use Rattle.replay_program.specs.declared.replay.Status.TheVariants as statuses
+use Rattle.replay_program.specs.Outcome.{RunEnds, Yields, code_of}
 use Rattle.job_values.specs.declared.cluster.ClusterEvent.{ClusterEvent}
 use Rattle.script_text.specs.Lines.{IsLine}
 use Rattle.script_text.specs.Faults.{IsNoLine}
@@ -75,3 +79,37 @@ one_end way other before (e ∷ es) (f ∷ fs) whole front rest back taken given
     let size' : before + length front ≡ (before + length taken.0) + length given.1 = rw given.5 (omega (arith, length-append {A = ℕ}, ap length lines)) in
     one_end way other (before + length taken.0) es fs taken.1 given.1 rest back taken.4 (subst R (ap (λ t. before + length t) (sym lines)) given.4) others
       (subst P size goes) (subst Q size' there)
+
+-- the status of a way
+abbrev pub status_of_way : Way → ℕ
+status_of_way AllLines = 0
+status_of_way BadOne = 1
+status_of_way LargeOne = 6
+
+-- the way of the input decides the status
+pub yields : (settings : Settings) (left left' taken now : Option (List ℕ)) (read reads wrote wrotes : ℕ) (status : Status) (way : Way) (es : List ClusterEvent) (input whole rest : List ℕ) →
+  RunEnds settings left left' taken now read reads wrote wrotes status → left ≡ Some input → IsTaken 0 es whole → input ≡ whole ++ rest → Goes way (length whole) rest →
+  Yields (status_of_way way) (code_of status)
+yields settings left left' taken now read reads wrote wrotes statuses.Done way es input whole rest ends is script parts goes =
+    let end = (ends input is).1 in
+    let P : ℕ → Type 0 = λ n. Goes way n rest in
+    let same : way ≡ AllLines = one_end way AllLines 0 es end.events whole input rest [] script end.script (sym parts ∙ sym (append-nil input)) (subst P (sym (zero-add (length whole))) goes) refl in
+    inl (sym (ap status_of_way same))
+yields settings left left' taken now read reads wrote wrotes statuses.BadLine way es input whole rest ends is script parts goes =
+    let end = (ends input is).at in
+    let P : ℕ → Type 0 = λ n. Goes way n rest in
+    let Q : ℕ → Type 0 = λ n. Goes BadOne n end.rest in
+    let same : way ≡ BadOne = one_end way BadOne 0 es (ends input is).events whole end.whole rest end.rest script end.script (sym parts ∙ end.parts)
+      (subst P (sym (zero-add (length whole))) goes) (subst Q (sym (zero-add (length end.whole))) (end.some, end.within, end.bad.none)) in
+    inl (sym (ap status_of_way same))
+yields settings left left' taken now read reads wrote wrotes statuses.BadWords way es input whole rest ends is script parts goes = absurd ends
+yields settings left left' taken now read reads wrote wrotes statuses.SourceFailed way es input whole rest ends is script parts goes = inr (inl refl)
+yields settings left left' taken now read reads wrote wrotes statuses.SinkFailed way es input whole rest ends is script parts goes = inr (inr (inl refl))
+yields settings left left' taken now read reads wrote wrotes statuses.NoMemory way es input whole rest ends is script parts goes = inr (inr (inr refl))
+yields settings left left' taken now read reads wrote wrotes statuses.TooLarge way es input whole rest ends is script parts goes =
+    let end = (ends input is).at in
+    let P : ℕ → Type 0 = λ n. Goes way n rest in
+    let Q : ℕ → Type 0 = λ n. Goes LargeOne n end.rest in
+    let same : way ≡ LargeOne = one_end way LargeOne 0 es (ends input is).events whole end.whole rest end.rest script end.script (sym parts ∙ end.parts)
+      (subst P (sym (zero-add (length whole))) goes) (subst Q (sym (zero-add (length end.whole))) (end.some, end.large)) in
+    inl (sym (ap status_of_way same))

@@ -150,3 +150,7 @@ code_of status.SourceFailed = 3
 code_of status.SinkFailed = 4
 code_of status.NoMemory = 5
 code_of status.TooLarge = 6
+
+-- this status, or that of a failed source, a failed sink or want of memory in its place
+abbrev pub Yields : ℕ → ℕ → Type 0
+Yields status result = (result ≡ status) ⊎ (result ≡ 3) ⊎ (result ≡ 4) ⊎ (result ≡ 5)

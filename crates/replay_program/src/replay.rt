@@ -1,11 +1,12 @@
 //! A whole replay: the script of a source is played, and the replies and the report go to a sink.
-ghost use Rattle.std.specs.Prelude.{◌≡◌, ℕ, ◌≤◌, ◌++◌, ◌∷◌, List, [], codes, IfErr, OnOk, Some, MatchOption, map, string_bytes};
+ghost use Rattle.std.specs.Prelude.{◌≡◌, ℕ, ◌≤◌, ◌++◌, ◌∷◌, List, [], codes, IfErr, OnOk, Some, MatchOption, IsSome, IsNone, ◌⊎◌, map, string_bytes};
+ghost use Rattle.job_values.specs.declared.cluster.ClusterEvent.{ClusterEvent};
 ghost use Rattle.cluster_history.specs.declared.settings.Settings.{Settings};
-ghost use Rattle.replay_program.specs.Script.{Start, report_line};
+ghost use Rattle.replay_program.specs.Script.{Start, IsTaken, report_line};
 ghost use Rattle.replay_program.specs.Progress.{At};
 ghost use Rattle.replay_program.specs.Words.{settings_said};
 ghost use Rattle.replay_program.specs.declared.replay.Status.{Status};
-ghost use Rattle.replay_program.specs.Outcome.{Closed, Fails, RunEnds, WordsEnd, bad_last, large_last, bad_line, large_line, code_of, status_after};
+ghost use Rattle.replay_program.specs.Outcome.{Closed, Fails, RunEnds, WordsEnd, Yields, BadAt, LargeAt, bad_last, large_last, bad_line, large_line, code_of, status_after};
 
 use super::machine::Machine;
 use super::stream::{Ended, Replay, play};
@@ -206,6 +207,16 @@ pub fn replay_main<S: Source, O: Sink>(
             (WordsEnd (O.taken sink.old) (O.taken sink.new) (O.faults sink.old) (O.faults sink.new) status)
             (λ settings. RunEnds settings (S.left source.old) (S.left source.new) (O.taken sink.old) (O.taken sink.new)
                 (S.faults source.old) (S.faults source.new) (O.faults sink.old) (O.faults sink.new) status) }
+    // Words that are no command give 2, unless the sink fails.
+    ensures words { IsNone (settings_said (map string_bytes words.now)) → (result ≡ 2) ⊎ (result ≡ 4) }
+    // A script within the limits gives 0, a line within the limits that is none 1, a line or an input
+    // past its limit 6, unless the source or the sink fails or memory runs out.
+    ensures taken { (events : List ClusterEvent) (input : List ℕ) → IsSome (settings_said (map string_bytes words.now)) →
+        S.left source.old ≡ Some input → IsTaken 0 events input → Yields 0 result }
+    ensures bad { (events : List ClusterEvent) (input : List ℕ) (column : ℕ) → IsSome (settings_said (map string_bytes words.now)) →
+        S.left source.old ≡ Some input → BadAt events input column → Yields 1 result }
+    ensures large { (events : List ClusterEvent) (input : List ℕ) → IsSome (settings_said (map string_bytes words.now)) →
+        S.left source.old ≡ Some input → LargeAt events input → Yields 6 result }
     ensures read { S.faults source.old ≤ S.faults source.new }
     ensures wrote { O.faults sink.old ≤ O.faults sink.new }
 {

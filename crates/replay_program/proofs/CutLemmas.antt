@@ -61,12 +61,16 @@ open_below (x ∷ xs) (suc n) never =
 
 -- the first end of a line ends a line
 pub first_end : (bytes : List ℕ) (at : Option ℕ) → IsFirstByte (is_byte 10) bytes at →
-  MatchOption at (is_open bytes ≡ true) (λ i. (i < length bytes) × IsLineEnd (take (i + 1) bytes))
+    MatchOption at (is_open bytes ≡ true) (λ i. (i < length bytes) × IsLineEnd (take (i + 1) bytes))
 first_end bytes None nowhere = rw (← take-length bytes) (open_below bytes (length bytes) (λ k below within. nowhere k (omega arith) within))
-first_end bytes (Some i) found = (found.0.high, record {
-  front = take i bytes;
-  is = take_more bytes i 0 found.0.high ∙ ap (λ b. take i bytes ++ b ∷ []) (eqb-true (get_or bytes i 0) 10 found.1);
-  one = open_below bytes i (λ k below within. found.0.before k (omega arith) below) })
+first_end bytes (Some i) found = (
+  found.0.high,
+  record {
+    front = take i bytes;
+    is = take_more bytes i 0 found.0.high ∙ ap (λ b. take i bytes ++ b ∷ []) (eqb-true (get_or bytes i 0) 10 found.1);
+    one = open_below bytes i (λ k below within. found.0.before k (omega arith) below);
+  },
+)
 
 -- how many bytes stand before the end of a line
 pub length_content : (pending end : List ℕ) → is_open pending ≡ true → IsLineEnd end → length (content (pending ++ end)) + 1 ≡ length (pending ++ end)

@@ -29,7 +29,7 @@ either_way false never = refl
 
 -- a longer line is past a limit too
 pub larger : (before : ℕ) (part line : List ℕ) → length (content part) ≤ length (content line) → length part ≤ length line →
-  is_within before part ≡ false → is_within before line ≡ false
+    is_within before part ≡ false → is_within before line ≡ false
 larger before part line content_grows grows large = either_way (is_within before line) (λ within.
     let bounds = within_bounds before line within in
     let small : is_within before part ≡ true = bounds_within before part (omega (arith, bounds.0)) (omega (arith, bounds.1)) in
@@ -52,14 +52,14 @@ large_some before (x ∷ part) small large = omega arith
 
 -- the line that a part begins is past the limit too
 part_or_line : (before : ℕ) (part front more : List ℕ) → is_open front ≡ true → (part ≡ front) ⊎ (part ≡ front ++ 10 ∷ []) →
-  is_within before part ≡ false → is_within before (next_line (part ++ more)) ≡ false
+    is_within before part ≡ false → is_within before (next_line (part ++ more)) ≡ false
 part_or_line before part front more one (inl is) large =
     let line : next_line (part ++ more) ≡ front ++ next_line more = rw is (next_append front more one) in
     let before_end : content (front ++ next_line more) ≡ front ++ content (next_line more) = content_append front (next_line more) one in
     let short : content part ≡ front = rw is (content_open front one) in
     rw line (larger before part (front ++ next_line more)
-      (omega (arith, ap length before_end, ap length short, length-append {A = ℕ}))
-      (omega (arith, ap length is, length-append {A = ℕ})) large)
+    (omega (arith, ap length before_end, ap length short, length-append {A = ℕ}))
+    (omega (arith, ap length is, length-append {A = ℕ})) large)
 part_or_line before part front more one (inr is) large =
     let line : next_line (part ++ more) ≡ part = rw is (next_whole front more one) in
     rw line large

@@ -46,7 +46,7 @@ digits_open zero n acc one = one
 digits_open (suc k) n acc one =
     let next : is_open (digit_glyph false (n % 10) ∷ acc) ≡ true = open_one (digit_glyph false (n % 10)) acc (glyph_other (nat_lt (n % 10) 10) (n % 10)) one in
     open_cond (nat_eq (n / 10) 0) (digit_glyph false (n % 10) ∷ acc) (digits_onto k 10 false (n / 10) (digit_glyph false (n % 10) ∷ acc)) next
-      (digits_open k (n / 10) (digit_glyph false (n % 10) ∷ acc) next)
+    (digits_open k (n / 10) (digit_glyph false (n % 10) ∷ acc) next)
 
 decimal_open : (n : ℕ) → is_open (decimal n) ≡ true
 unfolding digits
@@ -54,7 +54,7 @@ decimal_open n = digits_open 64 n [] refl
 
 -- nor has a text as it is written
 escape_cases : (quote slash low : Bool) (b : ℕ) → (low ≡ false → 32 ≤ b) →
-  is_open (cond quote (92 ∷ 34 ∷ []) (cond slash (92 ∷ 92 ∷ []) (cond low (92 ∷ (48 + b / 16) ∷ hex_digit (b % 16) ∷ []) (b ∷ [])))) ≡ true
+    is_open (cond quote (92 ∷ 34 ∷ []) (cond slash (92 ∷ 92 ∷ []) (cond low (92 ∷ (48 + b / 16) ∷ hex_digit (b % 16) ∷ []) (b ∷ [])))) ≡ true
 escape_cases true slash low b high = refl
 escape_cases false true low b high = refl
 escape_cases false false true b high =
@@ -111,19 +111,19 @@ group_kind_open group_kinds.Manual = refl
 
 -- five, and six, pieces without an end of a line
 five : (a b c d e : List ℕ) → is_open a ≡ true → is_open b ≡ true → is_open c ≡ true → is_open d ≡ true → is_open e ≡ true →
-  is_open (a ++ b ++ c ++ d ++ e) ≡ true
+    is_open (a ++ b ++ c ++ d ++ e) ≡ true
 five a b c d e p q r s t = open_append (a ++ b ++ c ++ d) e (open_append (a ++ b ++ c) d (open_append (a ++ b) c (open_append a b p q) r) s) t
 
 spec_open : (s : JobSpec) → is_open (spec_text s) ≡ true
 spec_open s =
     open_append (trigger_text s) (work_text s)
     (open_append (decimal s.group ++ 32 ∷ schedule_kind_text s.kind ++ spaced_text s.schedule ++ 32 ∷ misfire_text s.misfire ++ 32 ∷ route_text s.route) (32 ∷ block_text s.block)
-      (five (decimal s.group) (32 ∷ schedule_kind_text s.kind) (spaced_text s.schedule) (32 ∷ misfire_text s.misfire) (32 ∷ route_text s.route)
-        (decimal_open s.group) (kind_open s.kind) (quoted_open s.schedule) (misfire_open s.misfire) (route_open s.route))
-      (block_open s.block))
+    (five (decimal s.group) (32 ∷ schedule_kind_text s.kind) (spaced_text s.schedule) (32 ∷ misfire_text s.misfire) (32 ∷ route_text s.route)
+    (decimal_open s.group) (kind_open s.kind) (quoted_open s.schedule) (misfire_open s.misfire) (route_open s.route))
+    (block_open s.block))
     (five (spaced_text s.handler) (spaced_text s.param) (spaced_number s.timeout) (spaced_number s.retries) (32 ∷ counted_numbers s.children)
-      (quoted_open s.handler) (quoted_open s.param) (decimal_open s.timeout) (decimal_open s.retries)
-      (open_append (decimal (length s.children)) (flat_map spaced_number s.children) (decimal_open (length s.children)) (numbers_open s.children)))
+    (quoted_open s.handler) (quoted_open s.param) (decimal_open s.timeout) (decimal_open s.retries)
+    (open_append (decimal (length s.children)) (flat_map spaced_number s.children) (decimal_open (length s.children)) (numbers_open s.children)))
 
 words_open : (e : ClusterEvent) → is_open (event_words e) ≡ true
 words_open (NodeStart a) = decimal_open a

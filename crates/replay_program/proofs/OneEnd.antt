@@ -47,8 +47,8 @@ cancel (x ∷ front) xs ys same = cancel front xs ys (cc)
 
 -- the lines in front, and the way of what stands behind them, are the input's
 pub one_end : (way other : Way) (before : ℕ) (es fs : List ClusterEvent) (whole front rest back : List ℕ) →
-  IsTaken before es whole → IsTaken before fs front → whole ++ rest ≡ front ++ back →
-  Goes way (before + length whole) rest → Goes other (before + length front) back → way ≡ other
+    IsTaken before es whole → IsTaken before fs front → whole ++ rest ≡ front ++ back →
+    Goes way (before + length whole) rest → Goes other (before + length front) back → way ≡ other
 one_end way other before [] [] whole front rest back taken given same goes there =
     let rests : rest ≡ back = rw (taken, given) at same in
     let P : ℕ → Type 0 = λ n. Goes way n rest in
@@ -69,7 +69,7 @@ one_end way other before (e ∷ es) [] whole front rest back taken given same go
     absurd (no_end other before e taken.0 (taken.1 ++ rest) taken.2 taken.3 (subst Q is here))
 one_end way other before (e ∷ es) (f ∷ fs) whole front rest back taken given same goes there =
     let both : taken.0 ++ (taken.1 ++ rest) ≡ given.0 ++ (given.1 ++ back)
-      = sym (append_assoc taken.0 taken.1 rest) ∙ (rw (taken.5, given.5) at same) ∙ append_assoc given.0 given.1 back in
+    = sym (append_assoc taken.0 taken.1 rest) ∙ (rw (taken.5, given.5) at same) ∙ append_assoc given.0 given.1 back in
     let lines : taken.0 ≡ given.0 = sym (line_next e taken.0 (taken.1 ++ rest) taken.2) ∙ ap next_line both ∙ line_next f given.0 (given.1 ++ back) given.2 in
     let others : taken.1 ++ rest ≡ given.1 ++ back = cancel taken.0 (taken.1 ++ rest) (given.1 ++ back) (both ∙ ap (λ t. t ++ (given.1 ++ back)) (sym lines)) in
     let P : ℕ → Type 0 = λ n. Goes way n rest in
@@ -78,7 +78,7 @@ one_end way other before (e ∷ es) (f ∷ fs) whole front rest back taken given
     let size : before + length whole ≡ (before + length taken.0) + length taken.1 = rw taken.5 (omega (arith, length-append {A = ℕ})) in
     let size' : before + length front ≡ (before + length taken.0) + length given.1 = rw given.5 (omega (arith, length-append {A = ℕ}, ap length lines)) in
     one_end way other (before + length taken.0) es fs taken.1 given.1 rest back taken.4 (subst R (ap (λ t. before + length t) (sym lines)) given.4) others
-      (subst P size goes) (subst Q size' there)
+    (subst P size goes) (subst Q size' there)
 
 -- the status of a way
 abbrev pub status_of_way : Way → ℕ
@@ -88,8 +88,8 @@ status_of_way LargeOne = 6
 
 -- the way of the input decides the status
 pub yields : (settings : Settings) (left left' taken now : Option (List ℕ)) (read reads wrote wrotes : ℕ) (status : Status) (way : Way) (es : List ClusterEvent) (input whole rest : List ℕ) →
-  RunEnds settings left left' taken now read reads wrote wrotes status → left ≡ Some input → IsTaken 0 es whole → input ≡ whole ++ rest → Goes way (length whole) rest →
-  Yields (status_of_way way) (code_of status)
+    RunEnds settings left left' taken now read reads wrote wrotes status → left ≡ Some input → IsTaken 0 es whole → input ≡ whole ++ rest → Goes way (length whole) rest →
+    Yields (status_of_way way) (code_of status)
 yields settings left left' taken now read reads wrote wrotes statuses.Done way es input whole rest ends is script parts goes =
     let end = (ends input is).1 in
     let P : ℕ → Type 0 = λ n. Goes way n rest in
@@ -100,7 +100,7 @@ yields settings left left' taken now read reads wrote wrotes statuses.BadLine wa
     let P : ℕ → Type 0 = λ n. Goes way n rest in
     let Q : ℕ → Type 0 = λ n. Goes BadOne n end.rest in
     let same : way ≡ BadOne = one_end way BadOne 0 es (ends input is).events whole end.whole rest end.rest script end.script (sym parts ∙ end.parts)
-      (subst P (sym (zero-add (length whole))) goes) (subst Q (sym (zero-add (length end.whole))) (end.some, end.within, end.bad.none)) in
+    (subst P (sym (zero-add (length whole))) goes) (subst Q (sym (zero-add (length end.whole))) (end.some, end.within, end.bad.none)) in
     inl (sym (ap status_of_way same))
 yields settings left left' taken now read reads wrote wrotes statuses.BadWords way es input whole rest ends is script parts goes = absurd ends
 yields settings left left' taken now read reads wrote wrotes statuses.SourceFailed way es input whole rest ends is script parts goes = inr (inl refl)
@@ -111,5 +111,5 @@ yields settings left left' taken now read reads wrote wrotes statuses.TooLarge w
     let P : ℕ → Type 0 = λ n. Goes way n rest in
     let Q : ℕ → Type 0 = λ n. Goes LargeOne n end.rest in
     let same : way ≡ LargeOne = one_end way LargeOne 0 es (ends input is).events whole end.whole rest end.rest script end.script (sym parts ∙ end.parts)
-      (subst P (sym (zero-add (length whole))) goes) (subst Q (sym (zero-add (length end.whole))) (end.some, end.large)) in
+    (subst P (sym (zero-add (length whole))) goes) (subst Q (sym (zero-add (length end.whole))) (end.some, end.large)) in
     inl (sym (ap status_of_way same))

@@ -4,7 +4,8 @@
 mod machine;
 mod replay;
 mod stream;
+#[cfg(test)]
+mod tests;
 mod words;
-
 
 pub use replay::replay_main;

@@ -67,7 +67,12 @@ impl Machine {
     }
 
     /// Puts the line of the report behind the buffer, with the number of the lines that were played.
-    pub(crate) fn report(&self, alloc: Global, lines: usize, out: &mut Vec<u8>) -> Result<(), NoMemory>
+    pub(crate) fn report(
+        &self,
+        alloc: Global,
+        lines: usize,
+        out: &mut Vec<u8>,
+    ) -> Result<(), NoMemory>
         ensures { OnOk result ((settings : Settings) (whole text : List ℕ) (stands : Stands settings self.now lines whole text) →
             out.new.items ≡ out.old.items ++ report_line settings stands.events) }
     {

@@ -161,7 +161,10 @@ fn run<S: Source, O: Sink>(
     };
     match play(alloc, &mut replay, source, sink) {
         Ok(()) => status_of(end_with_report(alloc, &mut replay, sink), Status::Done),
-        Err(Ended::Bad(column)) => status_of(end_with_bad(&mut replay, column, sink), Status::BadLine),
+        Err(Ended::Bad(column)) => status_of(
+            end_with_bad(&mut replay, column, sink),
+            Status::BadLine,
+        ),
         Err(Ended::TooLarge) => status_of(end_with_large(&mut replay, sink), Status::TooLarge),
         Err(Ended::Source) => Status::SourceFailed,
         Err(Ended::Sink) => Status::SinkFailed,
@@ -204,9 +207,9 @@ pub fn replay_main<S: Source, O: Sink>(
     // The status says how the call ended, what was read and what was written.
     ensures ends { (status : Status) × (result ≡ code_of status)
         × MatchOption (settings_said (map string_bytes words.now))
-            (WordsEnd (O.taken sink.old) (O.taken sink.new) (O.faults sink.old) (O.faults sink.new) status)
-            (λ settings. RunEnds settings (S.left source.old) (S.left source.new) (O.taken sink.old) (O.taken sink.new)
-                (S.faults source.old) (S.faults source.new) (O.faults sink.old) (O.faults sink.new) status) }
+        (WordsEnd (O.taken sink.old) (O.taken sink.new) (O.faults sink.old) (O.faults sink.new) status)
+        (λ settings. RunEnds settings (S.left source.old) (S.left source.new) (O.taken sink.old) (O.taken sink.new)
+        (S.faults source.old) (S.faults source.new) (O.faults sink.old) (O.faults sink.new) status) }
     // Words that are no command give 2, unless the sink fails.
     ensures words { IsNone (settings_said (map string_bytes words.now)) → (result ≡ 2) ⊎ (result ≡ 4) }
     // A script within the limits gives 0, a line within the limits that is none 1, a line or an input

@@ -13,6 +13,8 @@ returns-in-Ok-write_whole-clause-ok g c = λ start whole at.
 
 pub returns-in-Err-write_whole-clause-err : goal.returns-in-Err-write_whole-clause-err
 returns-in-Err-write_whole-clause-err g c =
-    let wrote = rw c.as_slice.ensures.value at c.in-Err-write_whole.ensures.err in
-    (c.in-Err-write_whole.ensures.cause.failed, λ start whole at.
-      short start _ _ c.args.replay.now whole c.report.new.out.items wrote.0 report_line at (c.in-Ok.ensures start.settings whole at.text at.stands) wrote.1)
+    let wrote = rw c.as_slice.ensures.value at c.in-Err-write_whole.ensures.err in (
+      c.in-Err-write_whole.ensures.cause.failed,
+      λ start whole at.
+          short start _ _ c.args.replay.now whole c.report.new.out.items wrote.0 report_line at (c.in-Ok.ensures start.settings whole at.text at.stands) wrote.1,
+    )

@@ -31,16 +31,20 @@ returns-in-Err-TooLarge-clause-ends g c =
 pub returns-in-Err-Source-clause-ends : goal.returns-in-Err-Source-clause-ends
 returns-in-Err-Source-clause-ends g c =
     let old : Replay = record { machine = c.in-Ok.machine; out = c.new-2.result; lines = 0; size = 0 } in
-    let at = at_first c.args.settings (g.O.Sink.taken c.args.sink.now) old c.in-Ok.ensures c.new-2.ensures.items refl refl in
-    (rw c.in-Err-Source.field-0-is at c.in-Err-Source.ensures.cause, λ input is.
-      (rw c.in-Err-Source.field-0-is at c.in-Err-Source.ensures.err) input is _ at)
+    let at = at_first c.args.settings (g.O.Sink.taken c.args.sink.now) old c.in-Ok.ensures c.new-2.ensures.items refl refl in (
+      rw c.in-Err-Source.field-0-is at c.in-Err-Source.ensures.cause,
+      λ input is.
+          (rw c.in-Err-Source.field-0-is at c.in-Err-Source.ensures.err) input is _ at,
+    )
 
 pub returns-in-Err-Sink-clause-ends : goal.returns-in-Err-Sink-clause-ends
 returns-in-Err-Sink-clause-ends g c =
     let old : Replay = record { machine = c.in-Ok.machine; out = c.new-2.result; lines = 0; size = 0 } in
-    let at = at_first c.args.settings (g.O.Sink.taken c.args.sink.now) old c.in-Ok.ensures c.new-2.ensures.items refl refl in
-    (rw c.in-Err-Sink.field-0-is at c.in-Err-Sink.ensures.cause, λ input is.
-      ended_front _ _ input ((rw c.in-Err-Sink.field-0-is at c.in-Err-Sink.ensures.err) input is _ at))
+    let at = at_first c.args.settings (g.O.Sink.taken c.args.sink.now) old c.in-Ok.ensures c.new-2.ensures.items refl refl in (
+      rw c.in-Err-Sink.field-0-is at c.in-Err-Sink.ensures.cause,
+      λ input is.
+          ended_front _ _ input ((rw c.in-Err-Sink.field-0-is at c.in-Err-Sink.ensures.err) input is _ at),
+    )
 
 pub returns-clause-ends : goal.returns-clause-ends
 returns-clause-ends g c =

@@ -18,12 +18,13 @@ returns-in-Err-clause-err g c =
 
 pub loop-count-preserved : goal.loop-count-preserved
 loop-count-preserved g c =
-    let read = c.loop-count.invariant.0 in
-    ((_, consumes_both _ _ _ _ _ read.1 c.in-Ok.ensures.bytes.0, goes_both _ _ _ _ _ _ _ _ _ _ _ read.2 c.in-Ok-feed_within.ensures.ok),
-     c.in-Ok-feed_within.ensures.one,
-     c.in-Ok-feed_within.ensures.within,
-     omega arith,
-     omega arith)
+    let read = c.loop-count.invariant.0 in (
+      (_, consumes_both _ _ _ _ _ read.1 c.in-Ok.ensures.bytes.0, goes_both _ _ _ _ _ _ _ _ _ _ _ read.2 c.in-Ok-feed_within.ensures.ok),
+      c.in-Ok-feed_within.ensures.one,
+      c.in-Ok-feed_within.ensures.within,
+      omega arith,
+      omega arith,
+    )
 
 pub returns-in-Err-feed_within-clause-err : goal.returns-in-Err-feed_within-clause-err
 returns-in-Err-feed_within-clause-err g c =

@@ -8,7 +8,7 @@ use Rattle.replay_program.proofs.stream.read_all.Given as goal
 abbrev pub invariant-loop-count : goal.invariant-loop-count
 invariant-loop-count g l =
     ((bytes : List ℕ) × Consumes (g.S.Source.left l.initial.source) (g.S.Source.left l.source) bytes
-        × Goes (g.O.Sink.taken l.initial.sink) (g.O.Sink.taken l.sink) l.initial.replay l.replay l.initial.pending.items l.pending.items bytes)
+    × Goes (g.O.Sink.taken l.initial.sink) (g.O.Sink.taken l.sink) l.initial.replay l.replay l.initial.pending.items l.pending.items bytes)
     × (is_open l.pending.items ≡ true)
     × (l.replay.size + vec_len l.pending ≤ LAST_INPUT_BYTES)
     × (g.S.Source.faults l.initial.source ≤ g.S.Source.faults l.source)

@@ -9,6 +9,7 @@ returns-in-Ok-Reply-clause-ok c =
       machine = c.take.new.self;
       out = c.take.new.out;
       lines = c.saturating_add-self.result;
-      size = c.args.self.now.size + length c.args.line.now } in
+      size = c.args.self.now.size + length c.args.line.now;
+    } in
     λ base now whole at.
     at_more base now c.args.self.now new c.args.line.now whole (rw c.in-Ok-Reply.field-0-is at c.in-Ok-Reply.ensures.took) (rw (← c.requires.bytes) (sym c.if-not-is_small.ensures.value)) (λ few. omega (arith, c.if-not-is_small.ensures.within)) refl c.requires.some at

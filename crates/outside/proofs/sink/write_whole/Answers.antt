@@ -1,17 +1,9 @@
-use Rattle.std.proofs.Common.{ℕ, List, ◌++◌, Option, Some, None, arith, ◌∙◌, append_assoc}
+use Rattle.outside.proofs.KnownLemmas.{appends_both}
+use Rattle.std.proofs.Common.{ℕ, arith}
 use Rattle.std.proofs.Math.Seq.{take-add}
 use Rattle.std.proofs.lemmas.List.{take_rest}
 use Rattle.std.proofs.Common.{length-take, length-drop}
-use Rattle.std.specs.Io.KnownBytes.{Appends}
 use Rattle.outside.proofs.sink.write_whole.Goals as goal
-
--- two writes one after the other wrote both pieces
-appends_both : (old mid new : Option (List ℕ)) (xs ys : List ℕ) → Appends old mid xs → Appends mid new ys → Appends old new (xs ++ ys)
-appends_both None mid new xs ys first second = tt
-appends_both (Some xs0) None new xs ys first second = absurd first
-appends_both (Some xs0) (Some ys0) None xs ys first second = absurd second
-appends_both (Some xs0) (Some ys0) (Some zs0) xs ys first second =
-    second ∙ rw first (append_assoc xs0 xs ys)
 
 pub loop-done-preserved : goal.loop-done-preserved
 loop-done-preserved g c = (

@@ -1,0 +1,150 @@
+-- A line has its end at its end and nowhere else.
+use Rattle.std.proofs.Common.{◌≡◌, ℕ, zero, suc, ◌+◌, ◌/◌, ◌%◌, ◌<◌, ◌≤◌, Bool, true, false, cond, nat_eq, nat_lt, List, [], ◌∷◌, ◌++◌, length, refl, ap, sym, ◌∙◌, subst, arith, append_assoc, length-append, codes}
+use Rattle.std.proofs.lemmas.Bool.{eqb-true, ltb-false}
+use Rattle.std.specs.List.{flat_map}
+use Rattle.std.specs.Fmt.{decimal, digits, digits_onto, digit_glyph}
+use Rattle.job_values.specs.Words.{schedule_kind_text, misfire_text, route_text, block_text, group_kind_text}
+use Rattle.job_values.specs.declared.words.ScheduleKind.{ScheduleKind}
+use Rattle.job_values.specs.declared.words.ScheduleKind.TheVariants as kinds
+use Rattle.job_values.specs.declared.words.Misfire.{Misfire}
+use Rattle.job_values.specs.declared.words.Misfire.TheVariants as misfires
+use Rattle.job_values.specs.declared.words.Route.{Route}
+use Rattle.job_values.specs.declared.words.Route.TheVariants as routes
+use Rattle.job_values.specs.declared.words.Block.{Block}
+use Rattle.job_values.specs.declared.words.Block.TheVariants as blocks
+use Rattle.job_values.specs.declared.words.GroupKind.{GroupKind}
+use Rattle.job_values.specs.declared.words.GroupKind.TheVariants as group_kinds
+use Rattle.job_values.specs.declared.job.JobSpec.{JobSpec}
+use Rattle.job_values.specs.declared.cluster.ClusterEvent.{ClusterEvent}
+use Rattle.job_values.specs.declared.cluster.ClusterEvent.TheVariants.{NodeStart, AddGroup, AddJob, StartJob, ScanBegin, ScanStep, Turn}
+use Rattle.line_grammar.specs.Texts.{escape, spelled, hex_digit}
+use Rattle.line_grammar.specs.Writing.{quoted, spaced_text, spaced_number, counted_texts, counted_numbers}
+use Rattle.script_text.specs.Lines.{IsLine}
+use Rattle.script_text.specs.Spelling.{event_words, spelling, spec_text, trigger_text, work_text}
+use Rattle.script_text.proofs.SpellingLaws.{found}
+use Rattle.replay_program.specs.Cuts.{is_open, next_line}
+use Rattle.replay_program.proofs.CutLemmas.{open_append, next_whole}
+use Rattle.replay_program.proofs.LimitLemmas.{either_way}
+
+not_end : (x : ℕ) → (x ≡ 10 → ⊥) → nat_eq x 10 ≡ false
+not_end x never = either_way (nat_eq x 10) (λ e. never (eqb-true x 10 e))
+
+open_one : (x : ℕ) (xs : List ℕ) → nat_eq x 10 ≡ false → is_open xs ≡ true → is_open (x ∷ xs) ≡ true
+open_one x xs other one = rw other one
+
+open_cond : (b : Bool) (xs ys : List ℕ) → is_open xs ≡ true → is_open ys ≡ true → is_open (cond b xs ys) ≡ true
+open_cond true xs ys first second = first
+open_cond false xs ys first second = second
+
+glyph_other : (small : Bool) (d : ℕ) → nat_eq (cond small (48 + d) (87 + d)) 10 ≡ false
+glyph_other true d = not_end (48 + d) (λ e. omega arith)
+glyph_other false d = not_end (87 + d) (λ e. omega arith)
+
+-- the digits of a number have no end of a line
+digits_open : (k n : ℕ) (acc : List ℕ) → is_open acc ≡ true → is_open (digits_onto k 10 false n acc) ≡ true
+digits_open zero n acc one = one
+digits_open (suc k) n acc one =
+    let next : is_open (digit_glyph false (n % 10) ∷ acc) ≡ true = open_one (digit_glyph false (n % 10)) acc (glyph_other (nat_lt (n % 10) 10) (n % 10)) one in
+    open_cond (nat_eq (n / 10) 0) (digit_glyph false (n % 10) ∷ acc) (digits_onto k 10 false (n / 10) (digit_glyph false (n % 10) ∷ acc)) next
+    (digits_open k (n / 10) (digit_glyph false (n % 10) ∷ acc) next)
+
+decimal_open : (n : ℕ) → is_open (decimal n) ≡ true
+unfolding digits
+decimal_open n = digits_open 64 n [] refl
+
+-- nor has a text as it is written
+escape_cases : (quote slash low : Bool) (b : ℕ) → (low ≡ false → 32 ≤ b) →
+    is_open (cond quote (92 ∷ 34 ∷ []) (cond slash (92 ∷ 92 ∷ []) (cond low (92 ∷ (48 + b / 16) ∷ hex_digit (b % 16) ∷ []) (b ∷ [])))) ≡ true
+escape_cases true slash low b high = refl
+escape_cases false true low b high = refl
+escape_cases false false true b high =
+    open_one (48 + b / 16) (hex_digit (b % 16) ∷ []) (not_end (48 + b / 16) (λ e. omega arith)) (open_one (hex_digit (b % 16)) [] (glyph_other (nat_lt (b % 16) 10) (b % 16)) refl)
+escape_cases false false false b high = let least = high refl in open_one b [] (not_end b (λ e. omega (arith, least))) refl
+
+escape_open : (b : ℕ) → is_open (escape b) ≡ true
+escape_open b = escape_cases (nat_eq b 34) (nat_eq b 92) (nat_lt b 32) b (ltb-false b 32)
+
+spelled_open : (text : List ℕ) → is_open (spelled text) ≡ true
+spelled_open [] = refl
+spelled_open (b ∷ text) = open_append (escape b) (spelled text) (escape_open b) (spelled_open text)
+
+quoted_open : (text : List ℕ) → is_open (quoted text) ≡ true
+quoted_open text = open_append (spelled text) (34 ∷ []) (spelled_open text) refl
+
+texts_open : (texts : List (List ℕ)) → is_open (flat_map spaced_text texts) ≡ true
+texts_open [] = refl
+texts_open (text ∷ texts) = open_append (spaced_text text) (flat_map spaced_text texts) (quoted_open text) (texts_open texts)
+
+numbers_open : (numbers : List ℕ) → is_open (flat_map spaced_number numbers) ≡ true
+numbers_open [] = refl
+numbers_open (n ∷ numbers) = open_append (spaced_number n) (flat_map spaced_number numbers) (decimal_open n) (numbers_open numbers)
+
+kind_open : (k : ScheduleKind) → is_open (32 ∷ schedule_kind_text k) ≡ true
+kind_open kinds.Never = refl
+kind_open kinds.Cron = refl
+kind_open kinds.FixRate = refl
+
+misfire_open : (m : Misfire) → is_open (32 ∷ misfire_text m) ≡ true
+misfire_open misfires.DoNothing = refl
+misfire_open misfires.FireOnceNow = refl
+
+route_open : (r : Route) → is_open (32 ∷ route_text r) ≡ true
+route_open routes.First = refl
+route_open routes.Last = refl
+route_open routes.Round = refl
+route_open routes.Random = refl
+route_open routes.ConsistentHash = refl
+route_open routes.LeastFrequentlyUsed = refl
+route_open routes.LeastRecentlyUsed = refl
+route_open routes.Failover = refl
+route_open routes.Busyover = refl
+route_open routes.ShardingBroadcast = refl
+
+block_open : (b : Block) → is_open (32 ∷ block_text b) ≡ true
+block_open blocks.SerialExecution = refl
+block_open blocks.DiscardLater = refl
+block_open blocks.CoverEarly = refl
+
+group_kind_open : (k : GroupKind) → is_open (32 ∷ group_kind_text k) ≡ true
+group_kind_open group_kinds.Auto = refl
+group_kind_open group_kinds.Manual = refl
+
+-- five, and six, pieces without an end of a line
+five : (a b c d e : List ℕ) → is_open a ≡ true → is_open b ≡ true → is_open c ≡ true → is_open d ≡ true → is_open e ≡ true →
+    is_open (a ++ b ++ c ++ d ++ e) ≡ true
+five a b c d e p q r s t = open_append (a ++ b ++ c ++ d) e (open_append (a ++ b ++ c) d (open_append (a ++ b) c (open_append a b p q) r) s) t
+
+spec_open : (s : JobSpec) → is_open (spec_text s) ≡ true
+spec_open s =
+    open_append (trigger_text s) (work_text s)
+    (open_append (decimal s.group ++ 32 ∷ schedule_kind_text s.kind ++ spaced_text s.schedule ++ 32 ∷ misfire_text s.misfire ++ 32 ∷ route_text s.route) (32 ∷ block_text s.block)
+    (five (decimal s.group) (32 ∷ schedule_kind_text s.kind) (spaced_text s.schedule) (32 ∷ misfire_text s.misfire) (32 ∷ route_text s.route)
+    (decimal_open s.group) (kind_open s.kind) (quoted_open s.schedule) (misfire_open s.misfire) (route_open s.route))
+    (block_open s.block))
+    (five (spaced_text s.handler) (spaced_text s.param) (spaced_number s.timeout) (spaced_number s.retries) (32 ∷ counted_numbers s.children)
+    (quoted_open s.handler) (quoted_open s.param) (decimal_open s.timeout) (decimal_open s.retries)
+    (open_append (decimal (length s.children)) (flat_map spaced_number s.children) (decimal_open (length s.children)) (numbers_open s.children)))
+
+words_open : (e : ClusterEvent) → is_open (event_words e) ≡ true
+words_open (NodeStart a) = decimal_open a
+words_open (AddGroup app kind addresses) =
+    open_append (codes "addgroup " ++ quoted app ++ 32 ∷ group_kind_text kind) (32 ∷ counted_texts addresses)
+    (open_append (codes "addgroup " ++ quoted app) (32 ∷ group_kind_text kind) (open_append (codes "addgroup ") (quoted app) refl (quoted_open app)) (group_kind_open kind))
+    (open_append (decimal (length addresses)) (flat_map spaced_text addresses) (decimal_open (length addresses)) (texts_open addresses))
+words_open (AddJob s) = spec_open s
+words_open (StartJob at job) = open_append (codes "startjob " ++ decimal at) (spaced_number job) (open_append (codes "startjob ") (decimal at) refl (decimal_open at)) (decimal_open job)
+words_open (ScanBegin a at) = open_append (codes "scan " ++ decimal a) (spaced_number at) (open_append (codes "scan ") (decimal a) refl (decimal_open a)) (decimal_open at)
+words_open (ScanStep a) = decimal_open a
+words_open (Turn a at) = open_append (codes "turn " ++ decimal a) (spaced_number at) (open_append (codes "turn ") (decimal a) refl (decimal_open a)) (decimal_open at)
+
+-- a line is the next line of the bytes that it begins
+pub line_next : (e : ClusterEvent) (line more : List ℕ) → IsLine e line → next_line (line ++ more) ≡ line
+line_next e line more says =
+    let is : line ≡ event_words e ++ 10 ∷ [] = (found e line says).0 in
+    rw is (next_whole (event_words e) more (words_open e))
+
+-- a line is not empty
+pub line_some : (e : ClusterEvent) (line : List ℕ) → IsLine e line → 0 < length line
+line_some e line says =
+    let is : line ≡ event_words e ++ 10 ∷ [] = (found e line says).0 in
+    omega (arith, ap length is, length-append {A = ℕ})

@@ -1,0 +1,11 @@
+//! The replay of a script of events: lines in, replies and a report out.
+#![tactic(auto)]
+
+mod machine;
+mod replay;
+mod stream;
+#[cfg(test)]
+mod tests;
+mod words;
+
+pub use replay::replay_main;

@@ -1,0 +1,206 @@
+//! Whole replays over memory: the worked rows as one table, and each read and write failing in turn.
+use super::replay_main;
+use outside::{BytesSink, BytesSource, MemorySink, MemorySource};
+use std::test::Fail;
+
+/// What a script is played with, and what must come of it.
+struct Row {
+    script: &'static str,
+    written: &'static str,
+    status: u8,
+}
+
+/// The words, the start of every script with a job of rate 10, and its replies.
+const JOB: &str =
+    "start 0\naddgroup \"demo\" manual 1 \"http://e1:9999/\"\naddjob 1 FIX_RATE \"10\" DO_NOTHING FIRST SERIAL_EXECUTION \"demo\" \"\" 0 0 0\n";
+
+const JOB_REPLIES: &str = "ok\ngroup 1\njob 1\n";
+
+const ROWS: [Row; 17] = [
+    Row {
+        script: "startjob 100000 1\nscan 0 109999\nscan 0 110000\nstep 0\nturn 0 115000\nturn 0 115000\n",
+        written: "running 1 115000\nbegun 0\nbegun 1\nlook 1 early 115000 125000 115000 0\nfired 1 1 1 115000 1 1:fast\nfired 0\nend entries 9 jobs 1 logs 1 settled 0 failed 0 waiting 0 queued 1 held 0\n",
+        status: 0,
+    },
+    Row {
+        script: "startjob 100000 1\nscan 0 110000\nstep 0\nturn 0 114000\nturn 0 116000\n",
+        written: "running 1 115000\nbegun 1\nlook 1 early 115000 125000 115000 0\nfired 0\nfired 1 1 1 115000 1 1:fast\nend entries 8 jobs 1 logs 1 settled 0 failed 0 waiting 0 queued 1 held 0\n",
+        status: 0,
+    },
+    Row {
+        script: "startjob 100000 1\nscan 0 110000\nstep 0\nturn 0 114000\nturn 0 117000\nturn 0 175000\n",
+        written: "running 1 115000\nbegun 1\nlook 1 early 115000 125000 115000 0\nfired 0\nfired 0\nfired 1 1 1 115000 1 1:fast\nend entries 9 jobs 1 logs 1 settled 0 failed 0 waiting 0 queued 1 held 0\n",
+        status: 0,
+    },
+    Row {
+        script: "startjob 110000 1\nscan 0 130000\nstep 0\n",
+        written: "running 1 125000\nbegun 1\nlook 1 late 125000 140000 - 1 1:fast\nend entries 6 jobs 1 logs 1 settled 0 failed 0 waiting 0 queued 1 held 0\n",
+        status: 0,
+    },
+    Row {
+        script: "startjob 110000 1\nscan 0 130001\nstep 0\n",
+        written: "running 1 125000\nbegun 1\nlook 1 misfire 125000 140001 - 0\nend entries 6 jobs 1 logs 0 settled 0 failed 0 waiting 0 queued 0 held 0\n",
+        status: 0,
+    },
+    Row {
+        script: "startjob 4102444780000 1\n",
+        written: "running 1 4102444795000\nend entries 4 jobs 1 logs 0 settled 0 failed 0 waiting 0 queued 0 held 0\n",
+        status: 0,
+    },
+    Row {
+        script: "startjob 4102444790000 1\n",
+        written: "no NoNext\nend entries 4 jobs 1 logs 0 settled 0 failed 0 waiting 0 queued 0 held 0\n",
+        status: 0,
+    },
+    Row {
+        script: "startjob 4102444800000 1\n",
+        written: "bad line 4 22\n",
+        status: 1,
+    },
+    Row {
+        script: "start 0\n",
+        written: "no NodeRunning 0\nend entries 4 jobs 1 logs 0 settled 0 failed 0 waiting 0 queued 0 held 0\n",
+        status: 0,
+    },
+    Row {
+        script: "startjob 100000 1\nscan 0 110000\nscan 0 110000\nstartjob 1 2\nstep 0\nstep 0\n",
+        written: "running 1 115000\nbegun 1\nno Busy 0\nno NoJob\nlook 1 early 115000 125000 115000 0\nno NotScanning\nend entries 9 jobs 1 logs 0 settled 0 failed 0 waiting 1 queued 0 held 0\n",
+        status: 0,
+    },
+    Row {
+        script: "start 16\n",
+        written: "bad line 4 7\n",
+        status: 1,
+    },
+    Row {
+        script: "stat 0\n",
+        written: "bad line 4 4\n",
+        status: 1,
+    },
+    Row {
+        script: "start 0",
+        written: "bad line 4 8\n",
+        status: 1,
+    },
+    Row {
+        script: "scan 0 01\n",
+        written: "bad line 4 9\n",
+        status: 1,
+    },
+    Row {
+        script: "addgroup \"a\\0a\" manual 0\n",
+        written: "group 2\nend entries 4 jobs 1 logs 0 settled 0 failed 0 waiting 0 queued 0 held 0\n",
+        status: 0,
+    },
+    Row {
+        script: "addgroup \"a\\0A\" manual 0\n",
+        written: "bad line 4 14\n",
+        status: 1,
+    },
+    Row {
+        script: "\n",
+        written: "bad line 4 1\n",
+        status: 1,
+    },
+];
+
+/// The words of a command.
+fn words(rt: &impl Alloc<A = std::alloc::Global>, word: &str) -> Result<Vec<String>, Fail> {
+    let mut words = Vec::new(rt.alloc());
+    words.push(String::from_str(rt.alloc(), word)?)?;
+    Ok(words)
+}
+
+#[test]
+fn rows_are_played(rt: HostRuntime) -> Result<(), Fail> {
+    let run = words(&rt, "run")?;
+    for row in &ROWS {
+        let script = format!(in rt.alloc(); "{}{}", JOB, row.script)?;
+        let written = format!(in rt.alloc(); "{}{}", JOB_REPLIES, row.written)?;
+        let mut source = BytesSource::new(script.as_bytes());
+        let mut sink = BytesSink::new(rt.alloc());
+        let status = replay_main(rt.alloc(), run.as_slice(), &mut source, &mut sink);
+        assert_eq!(rt; sink.taken(), written.as_bytes());
+        assert_eq!(rt; status, row.status);
+    }
+    Ok(())
+}
+
+#[test]
+fn nothing_is_reported_and_wrong_words_are_refused(rt: HostRuntime) -> Result<(), Fail> {
+    let run = words(&rt, "run")?;
+    let mut sink = BytesSink::new(rt.alloc());
+    let status = replay_main(
+        rt.alloc(),
+        run.as_slice(),
+        &mut BytesSource::new(b""),
+        &mut sink,
+    );
+    assert_eq!(rt;
+        sink.taken(),
+        b"end entries 0 jobs 0 logs 0 settled 0 failed 0 waiting 0 queued 0 held 0\n".as_slice()
+    );
+    assert_eq!(rt; status, 0);
+    let other = words(&rt, "walk")?;
+    let mut sink = BytesSink::new(rt.alloc());
+    let status = replay_main(
+        rt.alloc(),
+        other.as_slice(),
+        &mut BytesSource::new(b""),
+        &mut sink,
+    );
+    assert_eq!(rt; sink.taken(), b"bad words\n".as_slice());
+    assert_eq!(rt; status, 2);
+    Ok(())
+}
+
+#[test]
+fn a_long_line_is_too_large(rt: HostRuntime) -> Result<(), Fail> {
+    let run = words(&rt, "run")?;
+    let line = vec![in rt.alloc(); b'x'; 262_145]?;
+    let mut sink = BytesSink::new(rt.alloc());
+    let status = replay_main(
+        rt.alloc(),
+        run.as_slice(),
+        &mut BytesSource::new(line.as_slice()),
+        &mut sink,
+    );
+    assert_eq!(rt; sink.taken(), b"too large 1\n".as_slice());
+    assert_eq!(rt; status, 6);
+    Ok(())
+}
+
+#[test]
+fn each_read_and_each_write_may_fail(rt: HostRuntime) -> Result<(), Fail> {
+    let run = words(&rt, "run")?;
+    let whole =
+        b"ok\nno NodeRunning 0\nend entries 2 jobs 0 logs 0 settled 0 failed 0 waiting 0 queued 0 held 0\n";
+    for call in 1..10u64 {
+        let failing = vec![in rt.alloc(); call]?;
+        let mut source = MemorySource::new(rt.alloc(), b"start 0\nstart 0\n")
+            .in_pieces(5)
+            .failing(failing);
+        let mut sink = BytesSink::new(rt.alloc());
+        let status = replay_main(rt.alloc(), run.as_slice(), &mut source, &mut sink);
+        assert_eq!(rt; status, if source.faults() == 0 { 0 } else { 3 });
+        assert!(rt; whole.starts_with(sink.taken()));
+    }
+    for call in 1..30u64 {
+        let failing = vec![in rt.alloc(); call]?;
+        let mut sink = MemorySink::new(rt.alloc()).in_pieces(7).failing(failing);
+        let mut source = BytesSource::new(b"start 0\nstart 0\n");
+        let status = replay_main(rt.alloc(), run.as_slice(), &mut source, &mut sink);
+        assert_eq!(rt; status, if sink.faults() == 0 { 0 } else { 4 });
+        assert!(rt; whole.starts_with(sink.taken()));
+    }
+    let mut full = MemorySink::new(rt.alloc()).in_pieces(0);
+    let status = replay_main(
+        rt.alloc(),
+        run.as_slice(),
+        &mut BytesSource::new(b""),
+        &mut full,
+    );
+    assert_eq!(rt; full.taken(), b"".as_slice());
+    assert_eq!(rt; status, 4);
+    Ok(())
+}

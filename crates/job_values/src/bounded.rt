@@ -92,6 +92,19 @@ impl<T, const MOST: usize> Model for BoundedSeq<T, MOST> {
     ghost invariant = { λ s. length s.items ≤ MOST };
 }
 
+impl<T: Drop, const MOST: usize> BoundedSeq<T, MOST> {
+    /// None exactly where the list has more than `MOST` elements.
+    pub fn new(items: Seq<T>) -> Option<BoundedSeq<T, MOST>>
+        ensures { result ≡ (if nat_le (length items) MOST then Some items else None) }
+    {
+        if items.len() <= MOST {
+            Some(BoundedSeq { items })
+        } else {
+            None
+        }
+    }
+}
+
 impl<T, const MOST: usize> BoundedSeq<T, MOST> {
     /// The list of a list that has at most `MOST` elements.
     pub fn of(items: Seq<T>) -> BoundedSeq<T, MOST>

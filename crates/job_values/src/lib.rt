@@ -10,6 +10,9 @@ pub mod no_memory;
 pub mod numbers;
 pub mod run;
 pub mod seq;
+pub mod steps;
+#[cfg(test)]
+mod tests;
 pub mod text;
 pub mod words;
 
@@ -29,6 +32,7 @@ pub use numbers::{
 };
 pub use run::{CallbackItem, Run, RunParam, RunWord};
 pub use seq::Seq;
+pub use steps::Steps;
 pub use text::Text;
 pub use words::{
     Block, Case, GroupKind, Misfire, PoolAnswer, PoolKind, Route, ScheduleKind, TriggerKind,

@@ -1,0 +1,4 @@
+pub mod Number
+pub mod Rate
+pub mod Parse
+pub mod After

@@ -1,0 +1,6 @@
+//! What a look at a due time finds and does: the table of scans.
+#![tactic(auto)]
+
+pub mod decision;
+
+pub use decision::{Decision, MISFIRE_WINDOW, decide};

@@ -1,0 +1,15 @@
+//! What lies outside the scheduler, one trait each, with the forms in memory that tests use and the
+//! adapters to the real thing. Every object counts its faults, and a call fails only where that count rose.
+#![tactic(auto)]
+
+mod failed;
+mod sink;
+mod source;
+mod streams;
+#[cfg(test)]
+mod tests;
+
+pub use failed::Failed;
+pub use sink::{BytesSink, MemorySink, Sink, write_whole};
+pub use source::{BytesSource, MemorySource, Source};
+pub use streams::{StreamSink, StreamSource};

@@ -33,7 +33,7 @@ use Rattle.line_grammar.specs.Laws.{IsNumberOf, IsTextOf}
 use Rattle.line_grammar.proofs.Spellings.{text_list_said, text_list_found, number_list_said, number_list_found}
 use Rattle.script_text.specs.Words.{group_kind_at, schedule_kind_at, misfire_at, route_at, route_words, block_at}
 use Rattle.script_text.specs.Lines.{start_line, addgroup_line, addjob_line, startjob_line, scan_line, step_line, turn_line, other_words, behind, IsLine}
-use Rattle.script_text.specs.Spelling.{spelling, IsBuiltKind, IsBuiltRoute, IsBuilt, IsMoment, IsId, SpecFits, GroupFits, IsWithin}
+use Rattle.script_text.specs.Spelling.{spelling, IsBuiltRoute, IsBuilt, IsMoment, IsId, SpecFits, GroupFits, IsWithin}
 
 abbrev E : Type 0
 E = ClusterEvent
@@ -57,17 +57,18 @@ group_kind_found (suc zero) w h = h
 group_kind_found (suc (suc i)) w h = absurd h
 
 abbrev kind_words : List (List ℕ)
-kind_words = codes "NONE " ∷ codes "FIX_RATE " ∷ []
+kind_words = codes "NONE " ∷ codes "CRON " ∷ codes "FIX_RATE " ∷ []
 
-kind_said : (k : ScheduleKind) → IsBuiltKind k → (i : ℕ) × IsWord kind_words i (schedule_kind_text k ++ 32 ∷ []) × (schedule_kind_at i ≡ k)
-kind_said Never h = (0, refl, refl)
-kind_said Cron h = absurd h
-kind_said FixRate h = (1, refl, refl)
+kind_said : (k : ScheduleKind) → (i : ℕ) × IsWord kind_words i (schedule_kind_text k ++ 32 ∷ []) × (schedule_kind_at i ≡ k)
+kind_said Never = (0, refl, refl)
+kind_said Cron = (1, refl, refl)
+kind_said FixRate = (2, refl, refl)
 
-kind_found : (i : ℕ) (w : List ℕ) → IsWord kind_words i w → (w ≡ schedule_kind_text (schedule_kind_at i) ++ 32 ∷ []) × IsBuiltKind (schedule_kind_at i)
-kind_found zero w h = (h, tt)
-kind_found (suc zero) w h = (h, tt)
-kind_found (suc (suc i)) w h = absurd h
+kind_found : (i : ℕ) (w : List ℕ) → IsWord kind_words i w → w ≡ schedule_kind_text (schedule_kind_at i) ++ 32 ∷ []
+kind_found zero w h = h
+kind_found (suc zero) w h = h
+kind_found (suc (suc zero)) w h = h
+kind_found (suc (suc (suc i))) w h = absurd h
 
 abbrev misfire_words : List (List ℕ)
 misfire_words = codes "DO_NOTHING " ∷ codes "FIRE_ONCE_NOW " ∷ []
@@ -286,7 +287,7 @@ abbrev branch_q : ℕ → ScheduleKind → Grammar E
 branch_q g k = Text (text_form 0 1024 Space) refl (λ q. branch_m g k q)
 
 abbrev branch_k : ℕ → Grammar E
-branch_k g = Choice (codes "NONE ") (codes "FIX_RATE " ∷ []) refl (λ i. branch_q g (schedule_kind_at i))
+branch_k g = Choice (codes "NONE ") (codes "CRON " ∷ codes "FIX_RATE " ∷ []) refl (λ i. branch_q g (schedule_kind_at i))
 
 branches : addjob_line ≡ Number (number_form 1 2147483647 Space) refl branch_k
 branches = refl
@@ -300,8 +301,8 @@ addjob_text s =
     (number_is 1 2147483647 Space s.group) (text_is 0 1024 s.schedule) (text_is 0 255 s.handler) (text_is 0 512 s.param) (number_is 0 2147483647 Space s.timeout) (number_is 0 100 Space s.retries)
     ∙ job_words (codes "addjob ") (decimal s.group) (schedule_kind_text s.kind) (quoted s.schedule) (misfire_text s.misfire) (route_text s.route) (block_text s.block) (quoted s.handler) (quoted s.param) (decimal s.timeout) (decimal s.retries) (counted_numbers s.children)
 
-addjob_said : (s : JobSpec) → IsBuiltKind s.kind → IsBuiltRoute s.route → SpecFits s → IsLine (AddJob s) (spelling (AddJob s))
-addjob_said s kind_ok route_ok f =
+addjob_said : (s : JobSpec) → IsBuiltRoute s.route → SpecFits s → IsLine (AddJob s) (spelling (AddJob s))
+addjob_said s route_ok f =
     let e : E = AddJob s in
     let g = s.group in
     let k = s.kind in
@@ -335,7 +336,7 @@ addjob_said s kind_ok route_ok f =
     let sr : Says (branch_r g k q m) e xr = say_word (codes "FIRST ") route_words refl route_at (branch_b g k q m) e r (route_text r ++ 32 ∷ []) xb (route_said r route_ok) sb in
     let sm : Says (branch_m g k q) e xm = say_word (codes "DO_NOTHING ") (codes "FIRE_ONCE_NOW " ∷ []) refl misfire_at (branch_r g k q) e m (misfire_text m ++ 32 ∷ []) xr (misfire_said m) sr in
     let sq : Says (branch_q g k) e xq = say_text (text_form 0 1024 Space) refl (branch_m g k) e q xm (in_other_end 0 1024 q f.schedule) sm in
-    let sk : Says (branch_k g) e xk = say_word (codes "NONE ") (codes "FIX_RATE " ∷ []) refl schedule_kind_at (branch_q g) e k (schedule_kind_text k ++ 32 ∷ []) xq (kind_said k kind_ok) sq in
+    let sk : Says (branch_k g) e xk = say_word (codes "NONE ") (codes "CRON " ∷ codes "FIX_RATE " ∷ []) refl schedule_kind_at (branch_q g) e k (schedule_kind_text k ++ 32 ∷ []) xq (kind_said k) sq in
     let sg : Says addjob_line e xg = say_number (number_form 1 2147483647 Space) refl branch_k e g xk (id_before g f.group) sk in
     say_line 2 e (codes "addjob ") xg (spelling e) refl sg (addjob_text s)
 
@@ -343,7 +344,7 @@ addjob_said s kind_ok route_ok f =
 pub said : (e : E) → IsBuilt e → IsWithin e → IsLine e (spelling e)
 said (NodeStart a) built within = subst (λ (k : ℕ). IsLine (NodeStart k) (spelling (NodeStart k))) (sym built) start_said
 said (AddGroup app kind addresses) built within = addgroup_said app kind addresses within
-said (AddJob s) built within = addjob_said s built.0 built.1 within
+said (AddJob s) built within = addjob_said s built within
 said (StartJob at job) built within = startjob_said at job within.0 within.1
 said (ScanBegin a at) built within = subst (λ (k : ℕ). IsLine (ScanBegin k at) (spelling (ScanBegin k at))) (sym built) (scan_said at within)
 said (ScanStep a) built within = subst (λ (k : ℕ). IsLine (ScanStep k) (spelling (ScanStep k))) (sym built) step_said
@@ -426,7 +427,6 @@ addjob_found e text hg =
     let hn = ht.4 in
     let hl = hn.4 in
     let s : JobSpec = job_of hg.0 (schedule_kind_at hk.0) hq.0 (misfire_at hm.0) (route_at hr.0) (block_at hb.0) hh.0 hp.0 ht.0 hn.0 hl.0 in
-    let kind = kind_found hk.0 hk.1 hk.3 in
     let way = route_found hr.0 hr.1 hr.3 in
     let rl = peel hn.2 hl.1 hl.2 (counted_numbers hl.0 ++ 10 ∷ []) [] hl.5 (number_list_found 64 job_form hl.0 hl.1 hl.3) hl.4.1 in
     let rn = peel ht.2 hn.1 hn.2 (number_text (number_form 0 100 Space) hn.0) _ hn.5 hn.3.2 rl in
@@ -437,10 +437,10 @@ addjob_found e text hg =
     let rr = peel hm.2 hr.1 hr.2 (route_text (route_at hr.0) ++ 32 ∷ []) _ hr.5 way.0 rb in
     let rm = peel hq.2 hm.1 hm.2 (misfire_text (misfire_at hm.0) ++ 32 ∷ []) _ hm.5 (misfire_found hm.0 hm.1 hm.3) rr in
     let rq = peel hk.2 hq.1 hq.2 (text_text (text_form 0 1024 Space) hq.0) _ hq.5 hq.3.3 rm in
-    let rk = peel hg.2 hk.1 hk.2 (schedule_kind_text (schedule_kind_at hk.0) ++ 32 ∷ []) _ hk.5 kind.0 rq in
+    let rk = peel hg.2 hk.1 hk.2 (schedule_kind_text (schedule_kind_at hk.0) ++ 32 ∷ []) _ hk.5 (kind_found hk.0 hk.1 hk.3) rq in
     let rg = peel text hg.1 hg.2 (number_text (number_form 1 2147483647 Space) hg.0) _ hg.5 hg.3.2 rk in
     subst (λ (x : E). IsSpelled x (codes "addjob " ++ text)) (sym hl.4.0) (record {
-      built = (kind.1, way.1);
+      built = way.1;
       text_is = ap (λ (x : List ℕ). codes "addjob " ++ x) rg ∙ addjob_text s;
     })
 

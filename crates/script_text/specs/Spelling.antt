@@ -1,8 +1,6 @@
 -- The one spelling of each event.
 use Rattle.std.specs.Prelude.{◌≡◌, ℕ, ◌≤◌, List, [], ◌∷◌, ◌++◌, length, codes, decimal}
 use Rattle.std.specs.List.{AllByRecursion}
-use Rattle.job_values.specs.declared.words.ScheduleKind.{ScheduleKind}
-use Rattle.job_values.specs.declared.words.ScheduleKind.TheVariants as kinds
 use Rattle.job_values.specs.declared.words.Route.{Route}
 use Rattle.job_values.specs.declared.words.Route.TheVariants as routes
 use Rattle.line_grammar.specs.declared.ends.End.TheVariants.{Line}
@@ -41,12 +39,6 @@ event_words (Turn a at) = codes "turn " ++ decimal a ++ spaced_number at
 abbrev pub spelling : ClusterEvent → List ℕ
 spelling event = event_words event ++ 10 ∷ []
 
--- a kind that jobs may have by now
-abbrev pub IsBuiltKind : ScheduleKind → Type 0
-IsBuiltKind kinds.Never = Unit {0}
-IsBuiltKind kinds.Cron = ⊥
-IsBuiltKind kinds.FixRate = Unit {0}
-
 -- a route that jobs may have by now
 abbrev pub IsBuiltRoute : Route → Type 0
 IsBuiltRoute routes.First = Unit {0}
@@ -60,11 +52,11 @@ IsBuiltRoute routes.Failover = Unit {0}
 IsBuiltRoute routes.Busyover = Unit {0}
 IsBuiltRoute routes.ShardingBroadcast = ⊥
 
--- what is built by now of what the types allow: one admin, no cron text, no broadcast
+-- what is built by now of what the types allow: one admin, no broadcast
 abbrev pub IsBuilt : ClusterEvent → Type 0
 IsBuilt (NodeStart a) = a ≡ 0
 IsBuilt (AddGroup app kind addresses) = Unit {0}
-IsBuilt (AddJob s) = IsBuiltKind s.kind × IsBuiltRoute s.route
+IsBuilt (AddJob s) = IsBuiltRoute s.route
 IsBuilt (StartJob at job) = Unit {0}
 IsBuilt (ScanBegin a at) = a ≡ 0
 IsBuilt (ScanStep a) = a ≡ 0

@@ -3,7 +3,7 @@ use Rattle.std.specs.Prelude.{refl, ℕ, ◌==◌, if◌then◌else◌, List, []
 use Rattle.job_values.specs.declared.words.GroupKind.{GroupKind}
 use Rattle.job_values.specs.declared.words.GroupKind.TheVariants.{Auto, Manual}
 use Rattle.job_values.specs.declared.words.ScheduleKind.{ScheduleKind}
-use Rattle.job_values.specs.declared.words.ScheduleKind.TheVariants.{Never, FixRate}
+use Rattle.job_values.specs.declared.words.ScheduleKind.TheVariants.{Never, Cron, FixRate}
 use Rattle.job_values.specs.declared.words.Misfire.{Misfire}
 use Rattle.job_values.specs.declared.words.Misfire.TheVariants.{DoNothing, FireOnceNow}
 use Rattle.job_values.specs.declared.words.Block.{Block}
@@ -35,10 +35,10 @@ group_kind next = Choice (codes "auto ") (codes "manual " ∷ []) refl (λ i. ne
 
 -- a schedule kind
 abbrev pub schedule_kind_at : ℕ → ScheduleKind
-schedule_kind_at i = if i == 0 then Never else FixRate
+schedule_kind_at i = if i == 0 then Never else (if i == 1 then Cron else FixRate)
 
 abbrev pub schedule_kind : {E : Type 0} → (ScheduleKind → Grammar E) → Grammar E
-schedule_kind next = Choice (codes "NONE ") (codes "FIX_RATE " ∷ []) refl (λ i. next (schedule_kind_at i))
+schedule_kind next = Choice (codes "NONE ") (codes "CRON " ∷ codes "FIX_RATE " ∷ []) refl (λ i. next (schedule_kind_at i))
 
 abbrev pub misfire_at : ℕ → Misfire
 misfire_at i = if i == 0 then DoNothing else FireOnceNow

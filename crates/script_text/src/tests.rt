@@ -34,7 +34,7 @@ fn columns(rt: HostRuntime) -> Result<(), Fail> {
         (b"step 0\r\n".as_slice(), 7),
         (b"step 0\nx".as_slice(), 8),
         (b"addgroup \"a\" manual 2 \"b\"\n".as_slice(), 26),
-        (b"addjob 1 CRON \"\" ".as_slice(), 10),
+        (b"addjob 1 CRON \"\" ".as_slice(), 18),
     ] {
         assert_eq!(rt; column(rt.alloc(), bytes)?, wanted);
     }
@@ -49,6 +49,7 @@ fn lines_again(rt: HostRuntime) -> Result<(), Fail> {
         "addgroup \"\u{e9}\\\"\\\\\\1f\" auto 2 \"a\" \"b\"\n",
         "addjob 1 FIX_RATE \"30\" DO_NOTHING FIRST SERIAL_EXECUTION \"demo\" \"\" 0 0 0\n",
         "addjob 2147483647 NONE \"\" FIRE_ONCE_NOW BUSYOVER COVER_EARLY \"\" \"p\" 2147483647 100 2 1 7\n",
+        "addjob 1 CRON \"0 0 0 29 2 ? *\" DO_NOTHING FIRST SERIAL_EXECUTION \"demo\" \"\" 0 0 0\n",
         "startjob 4102444799999 1\n",
         "scan 0 0\n",
         "step 0\n",

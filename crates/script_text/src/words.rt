@@ -119,9 +119,9 @@ pub(crate) fn group_kind(word: usize) -> GroupKind
 
 /// Which word of a schedule kind.
 pub(crate) fn schedule_kind_word(reader: &mut Reader) -> Result<usize, ReadError>
-    ensures { Takes (λ i. i) result reader.new.rest.now (words_at (codes "NONE " ∷ codes "FIX_RATE " ∷ []) reader.old.rest.now) }
+    ensures { Takes (λ i. i) result reader.new.rest.now (words_at (codes "NONE " ∷ codes "CRON " ∷ codes "FIX_RATE " ∷ []) reader.old.rest.now) }
 {
-    reader.choice(&["NONE ", "FIX_RATE "])
+    reader.choice(&["NONE ", "CRON ", "FIX_RATE "])
 }
 
 /// The schedule kind of a word.
@@ -130,6 +130,7 @@ pub(crate) fn schedule_kind(word: usize) -> ScheduleKind
 {
     match word {
         0 => ScheduleKind::Never,
+        1 => ScheduleKind::Cron,
         _ => ScheduleKind::FixRate,
     }
 }

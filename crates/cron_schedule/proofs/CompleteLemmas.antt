@@ -1,22 +1,19 @@
 -- What the grammar gives as an item, the item reader reads.
-use Rattle.std.proofs.Common.{◌≡◌, ℕ, zero, suc, ◌+◌, ◌-◌, ◌<◌, ◌≤◌, Bool, true, false, not, ◌&&◌, ◌||◌, nat_eq, nat_lt, Option, Some, None, List, [], ◌∷◌, ◌++◌, length, get_or, take, drop, refl, sym, ap, ◌∙◌, arith, inl, inr, ◌⊎◌, if◌then◌else◌, length-append}
-use Rattle.std.specs.Prelude.{position, nat_le}
+use Rattle.std.proofs.Common.{◌≡◌, ℕ, suc, ◌-◌, ◌<◌, ◌≤◌, Bool, true, false, ◌&&◌, ◌||◌, nat_eq, nat_lt, Some, None, List, [], ◌∷◌, ◌++◌, length, refl, ap, ◌∙◌, arith, inl, inr, ◌⊎◌, if◌then◌else◌, length-append}
 use Rattle.std.specs.List.{list_all}
 use Rattle.std.specs.Char.{is_ascii_digit, to_ascii_uppercase}
-use Rattle.std.proofs.lemmas.Bool.{cases_lt}
 use Rattle.std.proofs.lemmas.Bool.Decides.{nat_tests}
-use Rattle.cron_schedule.specs.declared.item.Run.{Run}
 use Rattle.cron_schedule.specs.declared.item.Item.{Item}
-use Rattle.cron_schedule.specs.declared.item.Item.TheVariants.{Values, Free, Last, LastWorkday, Workday, LastWeekday, NthWeekday}
-use Rattle.cron_schedule.specs.Field.{least, greatest, greatest_step}
+use Rattle.cron_schedule.specs.declared.item.Item.TheVariants.{Last, LastWorkday, Workday, LastWeekday, NthWeekday}
+use Rattle.cron_schedule.specs.Field.{greatest, greatest_step}
 use Rattle.cron_schedule.specs.Number.{number_of}
-use Rattle.cron_schedule.specs.Reading.{is_byte, is_letter_at, within, value_of, step_of, run_of, lone, between, range_at, range_of, with_step, values_at, values_item, values_of, days_back, near_day, day_rule, last_such, nth_such, nth_at, weekday_rule, rule_of, rule_or, item_of}
+use Rattle.cron_schedule.specs.Reading.{is_byte, is_letter_at, run_of, range_of, values_of, day_rule, weekday_rule, rule_of, item_of}
 use Rattle.cron_schedule.specs.Grammar.{IsLetter, IsValue, IsStep, IsNumber, run_item, IsRange, IsItem, ReaderIsGrammar}
 use Rattle.cron_schedule.specs.Grammar.IsRange.{range, star}
 use Rattle.cron_schedule.specs.Grammar.IsItem.{value, values, value_step, values_step, free, last, last_back, last_workday, workday, last_weekday, nth_weekday}
 use Rattle.cron_schedule.proofs.FirstLemmas.{cases_test}
 use Rattle.cron_schedule.proofs.SplitLemmas.{lacks, lacks_first, lacks-both, last-behind, last-added, first-added, position-lacks, position-behind, take-before, drop-behind}
-use Rattle.cron_schedule.proofs.WordLemmas.{is_word, is_low, list_all-weaker, list_all-both, lacks-by, get_or-passes, number_of-digits, within_some, value_of-words, value_of-days, low-no_letter, digits-low, value_of-weekday_last}
+use Rattle.cron_schedule.proofs.WordLemmas.{is_word, is_low, list_all-weaker, list_all-both, lacks-by, number_of-digits, within_some, value_of-words, value_of-days, low-no_letter, digits-low, value_of-weekday_last}
 use Rattle.cron_schedule.proofs.GrammarLemmas.{item_sound}
 
 -- a byte of the values of an item: of a number or a name, `*`, `-` or `/`

@@ -1,7 +1,6 @@
 -- What the item reader reads, the grammar gives.
-use Rattle.std.proofs.Common.{◌≡◌, ℕ, zero, suc, ◌+◌, ◌-◌, ◌<◌, ◌≤◌, Bool, true, false, ◌&&◌, ◌||◌, nat_eq, nat_lt, Option, Some, None, List, [], ◌∷◌, ◌++◌, length, get_or, take, drop, refl, sym, ap, ◌∙◌, arith, inl, inr, ◌⊎◌, if◌then◌else◌}
-use Rattle.std.specs.Prelude.{position, nat_le}
-use Rattle.std.proofs.lemmas.Bool.{cases_lt}
+use Rattle.std.proofs.Common.{◌≡◌, ℕ, suc, ◌+◌, ◌-◌, ◌<◌, ◌≤◌, Bool, true, false, ◌&&◌, ◌||◌, nat_eq, nat_lt, Option, Some, None, List, [], ◌∷◌, ◌++◌, length, get_or, take, drop, refl, sym, ap, arith, inl, inr, ◌⊎◌, if◌then◌else◌}
+use Rattle.std.specs.Prelude.{position}
 use Rattle.std.proofs.lemmas.Option.{same_Some}
 use Rattle.std.proofs.lemmas.Bool.Decides.{nat_tests}
 use Rattle.cron_schedule.specs.declared.item.Run.{Run}
@@ -10,7 +9,7 @@ use Rattle.cron_schedule.specs.declared.item.Item.TheVariants.{Values, Free, Las
 use Rattle.cron_schedule.specs.Field.{least, greatest}
 use Rattle.cron_schedule.specs.Number.{number_of}
 use Rattle.cron_schedule.specs.Reading.{is_byte, is_letter_at, within, value_of, step_of, run_of, lone, between, range_at, range_of, with_step, values_at, values_item, values_of, days_back, near_day, day_rule, last_such, nth_such, nth_at, weekday_rule, rule_of, rule_or, item_of}
-use Rattle.cron_schedule.specs.Grammar.{IsLetter, IsValue, IsStep, IsNumber, run_item, IsRange, IsItem}
+use Rattle.cron_schedule.specs.Grammar.{IsLetter, IsValue, IsStep, run_item, IsRange, IsItem}
 use Rattle.cron_schedule.specs.Grammar.IsRange.{range, star}
 use Rattle.cron_schedule.specs.Grammar.IsItem.{value, values, value_step, values_step, free, last, last_back, last_workday, workday, last_weekday, nth_weekday}
 use Rattle.cron_schedule.proofs.FirstLemmas.{cases_test}

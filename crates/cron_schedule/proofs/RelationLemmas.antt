@@ -1,25 +1,22 @@
 -- The tests of days and moments are the relations on civil dates and times.
-use Rattle.std.proofs.Common.{◌≡◌, ℕ, zero, suc, ◌+◌, ◌-◌, ◌*◌, ◌/◌, ◌%◌, ◌<◌, ◌≤◌, Bool, true, false, ◌&&◌, nat_eq, refl, sym, ap, ◌∙◌, arith, ℤ, pos, negsuc, ◌+ℤ◌, ◌-ℤ◌, ◌*ℤ◌, ◌<ℤ◌, ◌≤ℤ◌, List, inl, inr, ◌⊎◌}
-use Rattle.std.proofs.lemmas.Bool.{cases_lt}
+use Rattle.std.proofs.Common.{◌≡◌, ℕ, ◌+◌, ◌*◌, ◌/◌, ◌%◌, ◌<◌, Bool, true, false, ◌&&◌, nat_eq, refl, sym, ◌∙◌, arith, ℤ, pos, ◌+ℤ◌, ◌<ℤ◌, ◌≤ℤ◌, List, inl, inr, ◌⊎◌}
 use Rattle.std.proofs.lemmas.Bool.Decides.{nat_tests}
 use Rattle.std.proofs.lemmas.Int.{by_lt_z}
 use Rattle.jiff_core.specs.declared.civil.date.Date.{Date}
 use Rattle.jiff_core.specs.declared.civil.time.Time.{Time}
 use Rattle.jiff_core.specs.declared.civil.datetime.DateTime.{DateTime}
-use Rattle.jiff_core.specs.Calendar.{days_from_civil, day_count, IsYear}
+use Rattle.jiff_core.specs.Calendar.{IsYear}
 use Rattle.jiff_core.specs.Date.{epoch_day}
 use Rattle.jiff_core.specs.Time.{time_nanos, time_seconds}
-use Rattle.jiff_core.specs.DateTime.{civil_nanos}
 use Rattle.jiff_core.proofs.SignedLemmas.{signed_arith}
 use Rattle.jiff_core.proofs.CalendarLemmas.{days_from_civil-day_count, day_count-lt_year, day_count-last_of_year, day_count-next_year, day_count-epoch}
 use Rattle.jiff_core.proofs.DateTimeLemmas.{civil_nanos-parts}
 use Rattle.cron_schedule.specs.declared.item.FieldItem.{FieldItem}
 use Rattle.cron_schedule.specs.Sets.{in_field}
-use Rattle.cron_schedule.specs.Calendar.{CivilDay, civil_day}
+use Rattle.cron_schedule.specs.Calendar.{civil_day}
 use Rattle.cron_schedule.specs.Days.{year_in_field, day_in_field, weekday_in_field, date_in_fields}
-use Rattle.cron_schedule.specs.Due.{IsCivilTime, TimeDue, DateDue, Due, DayDue, is_day_due, is_hour_second_due, is_second_due, is_local_due, is_clock_due, is_due}
-use Rattle.cron_schedule.proofs.FirstLemmas.{cases_test}
-use Rattle.cron_schedule.proofs.CivilLemmas.{IsDayNumber, IsDateOf, civil_day-number, date_of}
+use Rattle.cron_schedule.specs.Due.{TimeDue, DateDue, Due, DayDue, is_day_due, is_hour_second_due, is_second_due, is_local_due, is_clock_due, is_due}
+use Rattle.cron_schedule.proofs.CivilLemmas.{civil_day-number, date_of}
 use Rattle.cron_schedule.proofs.SetLemmas.{year_in_field-outside}
 use Rattle.cron_schedule.proofs.DueLemmas.{is_day_due-date}
 use Rattle.cron_schedule.proofs.AfterLemmas.{is_day_due-late, is_local_due-late, cases_second, clock_at, clock_before}

@@ -1,13 +1,12 @@
 -- The bytes of values and numbers.
-use Rattle.std.proofs.Common.{◌≡◌, ℕ, zero, suc, ◌+◌, ◌-◌, ◌<◌, ◌≤◌, Bool, true, false, not, ◌&&◌, ◌||◌, nat_eq, nat_lt, Option, Some, None, List, [], ◌∷◌, ◌++◌, length, get_or, take, drop, refl, sym, ap, ◌∙◌, arith, inl, inr, ◌⊎◌, if◌then◌else◌}
+use Rattle.std.proofs.Common.{◌≡◌, ℕ, zero, suc, ◌-◌, ◌<◌, Bool, true, false, not, ◌&&◌, ◌||◌, nat_eq, nat_lt, Option, Some, None, List, [], ◌∷◌, ◌++◌, length, get_or, refl, ap, ◌∙◌, arith, inl, inr, ◌⊎◌, if◌then◌else◌}
 use Rattle.std.specs.Prelude.{nat_le}
 use Rattle.std.specs.List.{list_all}
 use Rattle.std.specs.Char.{is_ascii_digit, to_ascii_uppercase}
-use Rattle.std.proofs.lemmas.Bool.{cases_lt}
 use Rattle.std.proofs.lemmas.Bool.Decides.{nat_tests}
 use Rattle.cron_schedule.specs.Field.{least, greatest}
 use Rattle.cron_schedule.specs.Number.{is_number, number_of}
-use Rattle.cron_schedule.specs.Reading.{is_byte, is_letter_at, is_name, month_named, weekday_named, named, within, first_of, value_of}
+use Rattle.cron_schedule.specs.Reading.{is_letter_at, is_name, month_named, weekday_named, named, within, first_of, value_of}
 use Rattle.cron_schedule.proofs.FirstLemmas.{cases_test}
 use Rattle.cron_schedule.proofs.SplitLemmas.{lacks}
 

@@ -1,9 +1,9 @@
 -- The grammar of items as a relation: which texts are which items of a field.
-use Rattle.std.specs.Prelude.{◌≡◌, ℕ, ◌≤◌, ◌⊎◌, List, [], ◌∷◌, ◌++◌, Option, Some, ◌↔◌}
+use Rattle.std.specs.Prelude.{◌≡◌, ℕ, ◌≤◌, ◌⊎◌, List, [], ◌∷◌, ◌++◌, Some, ◌↔◌}
 use Rattle.std.specs.Char.{to_ascii_uppercase}
 use Rattle.cron_schedule.specs.declared.item.Item.{Item}
 use Rattle.cron_schedule.specs.declared.item.Item.TheVariants.{Values, Free, Last, LastWorkday, Workday, LastWeekday, NthWeekday}
-use Rattle.cron_schedule.specs.Field.{least, greatest, greatest_step}
+use Rattle.cron_schedule.specs.Field.{least, greatest}
 use Rattle.cron_schedule.specs.Number.{number_of}
 use Rattle.cron_schedule.specs.Reading.{within, value_of, step_of, item_of}
 

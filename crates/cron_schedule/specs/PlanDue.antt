@@ -4,7 +4,7 @@ use Rattle.job_values.specs.declared.numbers.TheConstants.{LAST_MOMENT}
 use Rattle.cron_schedule.specs.declared.item.FieldItem.{FieldItem}
 use Rattle.cron_schedule.specs.declared.plan.Plan.{Plan}
 use Rattle.cron_schedule.specs.declared.plan.Plan.TheVariants.{Never, Every, Cron}
-use Rattle.cron_schedule.specs.Due.{Due, DayDue, is_due}
+use Rattle.cron_schedule.specs.Due.{Due, DayDue}
 use Rattle.cron_schedule.specs.After.{time_after}
 
 -- a moment is due by itself only under a cron text

@@ -1,4 +1,4 @@
-use Rattle.std.proofs.Common.{◌≡◌, true, false, sym, ◌∙◌, FitsSigned, w32}
+use Rattle.std.proofs.Common.{◌≡◌, false, sym, ◌∙◌, FitsSigned, w32}
 use Rattle.std.proofs.lemmas.Int.{to_z-of_z}
 use Rattle.cron_schedule.proofs.RelationLemmas.{day_due, day_test, day_outside}
 use Rattle.cron_schedule.proofs.clock.is_day_in.Goals as goal

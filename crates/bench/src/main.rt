@@ -5,6 +5,7 @@
 mod acts;
 mod api_messages;
 mod cron;
+mod lines;
 mod parts;
 
 use std::alloc::Global;
@@ -18,7 +19,8 @@ fn smoke<R: Print + Clock + Threads + Wait + Sync>(rt: &R, alloc: Global) -> io:
     cron::run(rt, alloc, 20, false)?;
     parts::run(rt, alloc, 2_000, false)?;
     api_messages::run(rt, alloc, 2, false)?;
-    acts::run(rt, alloc, 200, false)
+    acts::run(rt, alloc, 200, false)?;
+    lines::run(rt, alloc, 2, false)
 }
 
 fn main(rt: HostRuntime) -> io::Result<()> {
@@ -30,6 +32,7 @@ fn main(rt: HostRuntime) -> io::Result<()> {
             "parts" => parts::run(&rt, alloc, 2_000_000, true)?,
             "messages" => api_messages::run(&rt, alloc, 1_000, true)?,
             "lock" => acts::run(&rt, alloc, 200_000, true)?,
+            "lines" => lines::run(&rt, alloc, 200_000, true)?,
             other => println!(rt; "no workload {other}")?,
         }
     }

@@ -1,3 +1,4 @@
 pub mod Puts
 pub mod KnownRows
 pub mod Answered
+pub mod Rising

@@ -1,6 +1,7 @@
 //! A set of log ids, in rising order.
-ghost use Rattle.std.specs.Prelude.{◌≡◌, ◌+◌, ◌<◌, ◌≤◌, ◌==◌, not, nat_lt, [], length, filter, position, OnOk, vec_len, vec_capacity};
+ghost use Rattle.std.specs.Prelude.{◌≡◌, ◌+◌, ◌<◌, ◌≤◌, ◌==◌, not, nat_lt, [], length, filter, position, OnOk, MatchResult, vec_len, vec_capacity};
 ghost use Rattle.executor_history.specs.Past.{put_id, is_among};
+ghost use Rattle.executor_core.specs.Ids.{IsRising, IsAt, GoesAt};
 
 use job_values::{LogId, NoMemory};
 use std::alloc::Global;
@@ -19,6 +20,10 @@ impl Model for Ids {
     ghost Value = { IdsView };
 
     ghost view = { λ s. record { ids = s.ids.items; room = vec_capacity s.ids - vec_len s.ids } };
+
+    ghost use Rattle.executor_core.specs.Ids.{IsRising};
+
+    ghost invariant = { λ s. IsRising s.ids.items };
 }
 
 /// The place of the first id above this one.
@@ -28,19 +33,41 @@ fn place_above(ids: &[LogId], id: LogId) -> Option<usize>
     ids.iter().position(|other| id.get() < other.get())
 }
 
+/// Where an id is, or where it goes, found by halves.
+fn search(ids: &[LogId], id: LogId) -> Result<usize, usize>
+    requires { IsRising ids.now }
+    ensures { MatchResult result (IsAt id ids.now) (GoesAt id ids.now) }
+{
+    let number = id.get();
+    ids.binary_search_by_key(&number, |x| x.get())
+}
+
+/// Whether an id is among these.
+fn is_there(ids: &[LogId], id: LogId) -> bool
+    requires { IsRising ids.now }
+    ensures { result ≡ is_among id ids.now }
+{
+    match search(ids, id) {
+        Ok(_) => true,
+        Err(_) => false,
+    }
+}
+
 /// The ids without this one.
 fn without(ids: &mut Vec<LogId>, id: LogId)
+    requires { IsRising ids.old.items }
     ensures items { ids.new.items ≡ filter (λ x. not (id == x)) ids.old.items }
-    ensures len { vec_len ids.new ≤ vec_len ids.old }
-    ensures capacity { vec_capacity ids.new ≡ vec_capacity ids.old }
+    ensures rising { IsRising ids.new.items }
 {
     ids.retain(|x| !(id == *x));
 }
 
 /// The ids with this one, which there is room for.
 fn with(ids: &mut Vec<LogId>, id: LogId)
-    requires { vec_len ids.old < vec_capacity ids.old }
-    ensures { ids.new.items ≡ put_id id ids.old.items }
+    requires room { vec_len ids.old < vec_capacity ids.old }
+    requires rising { IsRising ids.old.items }
+    ensures items { ids.new.items ≡ put_id id ids.old.items }
+    ensures rising { IsRising ids.new.items }
 {
     match place_above(ids.as_slice(), id) {
         None => ids.push_reserved(id),
@@ -71,7 +98,7 @@ impl Ids {
     pub fn contains(&self, id: LogId) -> bool
         ensures { result ≡ is_among id self.now.ids }
     {
-        self.ids.iter().any(|x| id == *x)
+        is_there(self.ids.as_slice(), id)
     }
 
     /// Makes room for one more id.

@@ -9,3 +9,5 @@ pub mod Running
 pub mod LineEnds
 pub mod OneEnd
 mod WordLemmas
+mod TimesLemmas
+mod AnswerLemmas

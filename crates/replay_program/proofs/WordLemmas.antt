@@ -3,6 +3,7 @@ use Rattle.std.proofs.Common.{◌≡◌, ◌≢◌, length, map, ℕ, ◌+◌, �
 use Rattle.std.specs.Prelude.{Option}
 use Rattle.std.specs.Char.{is_ascii_digit}
 use Rattle.replay_program.specs.Words.{digits_from, in_bounds, settings_said}
+use Rattle.replay_program.specs.Next.{next_said}
 
 -- a number above the greatest is out of bounds
 out_of_bounds : (n most : ℕ) → most < n → in_bounds 0 most n ≡ None
@@ -26,3 +27,14 @@ no_command bytes (a ∷ b ∷ []) one four = refl
 no_command bytes (a ∷ b ∷ c ∷ []) one four = refl
 no_command bytes (a ∷ b ∷ c ∷ d ∷ []) one four = absurd (four refl)
 no_command bytes (a ∷ b ∷ c ∷ d ∷ e ∷ rest) one four = refl
+
+-- only six words ask for next times
+pub no_question : {A : Type 0} (bytes : A → List ℕ) (words : List A) → length words ≢ 6 → next_said (map bytes words) ≡ None
+no_question bytes [] six = refl
+no_question bytes (a ∷ []) six = refl
+no_question bytes (a ∷ b ∷ []) six = refl
+no_question bytes (a ∷ b ∷ c ∷ []) six = refl
+no_question bytes (a ∷ b ∷ c ∷ d ∷ []) six = refl
+no_question bytes (a ∷ b ∷ c ∷ d ∷ e ∷ []) six = refl
+no_question bytes (a ∷ b ∷ c ∷ d ∷ e ∷ f ∷ []) six = absurd (six refl)
+no_question bytes (a ∷ b ∷ c ∷ d ∷ e ∷ f ∷ g ∷ rest) six = refl

@@ -4,3 +4,5 @@ pub mod Script
 pub mod Took
 pub mod Progress
 pub mod Outcome
+pub mod Times
+pub mod Next

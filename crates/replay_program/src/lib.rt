@@ -2,6 +2,7 @@
 #![tactic(auto)]
 
 mod machine;
+mod next;
 mod replay;
 mod stream;
 #[cfg(test)]

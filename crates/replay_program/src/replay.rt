@@ -5,13 +5,16 @@ ghost use Rattle.cluster_history.specs.declared.settings.Settings.{Settings};
 ghost use Rattle.replay_program.specs.Script.{Start, IsTaken, report_line};
 ghost use Rattle.replay_program.specs.Progress.{At};
 ghost use Rattle.replay_program.specs.Words.{settings_said};
+ghost use Rattle.replay_program.specs.Next.{next_said, Wrote, NextEnds, OtherEnds};
 ghost use Rattle.replay_program.specs.declared.replay.Status.{Status};
 ghost use Rattle.replay_program.specs.Outcome.{Closed, Fails, RunEnds, WordsEnd, Yields, BadAt, LargeAt, bad_last, large_last, bad_line, large_line, code_of, status_after};
 
 use super::machine::Machine;
+use super::next::{Ask, put_fault, put_times};
 use super::stream::{Ended, Replay, play};
-use super::words::settings_of;
+use super::words::{next_of, settings_of};
 use cluster_history::Settings;
+use cron_schedule::{ParseFault, Schedule};
 use itoa::Buffer;
 use job_values::NoMemory;
 use outside::{Sink, Source, write_whole};
@@ -24,7 +27,7 @@ pub(crate) enum Status {
     Done,
     /// A line is none.
     BadLine,
-    /// The words are no command.
+    /// The words are no command, or name no schedule.
     BadWords,
     /// The source failed.
     SourceFailed,
@@ -78,7 +81,7 @@ fn push_large(out: &mut Vec<u8>, line: usize) -> Result<(), NoMemory>
 }
 
 /// Puts bytes behind the buffer.
-fn push_bytes(out: &mut Vec<u8>, bytes: &[u8]) -> Result<(), NoMemory>
+pub(crate) fn push_bytes(out: &mut Vec<u8>, bytes: &[u8]) -> Result<(), NoMemory>
     ensures { OnOk result (out.new.items ≡ out.old.items ++ bytes.now) }
 {
     match out.extend_from_slice(bytes) {
@@ -194,8 +197,50 @@ fn refuse_words<O: Sink>(sink: &mut O) -> Status
     }
 }
 
+/// Writes a text, with this status where it is written whole.
+fn write_answer<O: Sink>(text: &[u8], good: Status, sink: &mut O) -> Status
+    ensures ends { Wrote text.now good (O.taken sink.old) (O.taken sink.new) (O.faults sink.old) (O.faults sink.new) result }
+    ensures wrote { O.faults sink.old ≤ O.faults sink.new }
+{
+    match write_whole(sink, text) {
+        Ok(()) => good,
+        Err(_) => Status::SinkFailed,
+    }
+}
+
+/// Tells the next times of a schedule, or its first fault.
+fn tell_times<O: Sink>(alloc: Global, ask: &Ask, sink: &mut O) -> Status
+    ensures ends { NextEnds ask.now (O.taken sink.old) (O.taken sink.new) (O.faults sink.old) (O.faults sink.new) result }
+    ensures wrote { O.faults sink.old ≤ O.faults sink.new }
+{
+    let mut out = Vec::new(alloc);
+    match Schedule::parse(alloc, ask.kind, &ask.text) {
+        Ok(schedule) => match put_times(&mut out, &schedule, ask.offset, ask.count, ask.from) {
+            Ok(()) => write_answer(out.as_slice(), Status::Done, sink),
+            Err(_) => Status::NoMemory,
+        },
+        Err(ParseFault::Bad(fault)) => match put_fault(&mut out, fault) {
+            Ok(()) => write_answer(out.as_slice(), Status::BadWords, sink),
+            Err(_) => Status::NoMemory,
+        },
+        Err(ParseFault::NoMemory) => Status::NoMemory,
+    }
+}
+
+/// Answers words that are none of `run`.
+fn answer_words<O: Sink>(alloc: Global, words: &[String], sink: &mut O) -> Status
+    ensures ends { OtherEnds (next_said (map string_bytes words.now)) (O.taken sink.old) (O.taken sink.new) (O.faults sink.old) (O.faults sink.new) result }
+    ensures wrote { O.faults sink.old ≤ O.faults sink.new }
+{
+    match next_of(alloc, words) {
+        Ok(Some(ask)) => tell_times(alloc, &ask, sink),
+        Ok(None) => refuse_words(sink),
+        Err(_) => Status::NoMemory,
+    }
+}
+
 /// Does what the words say, those after the program's name: `run` plays the script of the source and
-/// writes the replies and the report to the sink. It always returns, with the exit status: 0; 1 for a
+/// writes the replies and the report to the sink; `next` writes the next times of a schedule. It always returns, with the exit status: 0; 1 for a
 /// line that is none; 2 for words that are no command; 3 where the source failed; 4 where the sink
 /// failed; 5 for want of memory; 6 for a line or an input past its limit.
 pub fn replay_main<S: Source, O: Sink>(
@@ -207,11 +252,11 @@ pub fn replay_main<S: Source, O: Sink>(
     // The status says how the call ended, what was read and what was written.
     ensures ends { (status : Status) × (result ≡ code_of status)
         × MatchOption (settings_said (map string_bytes words.now))
-        (WordsEnd (O.taken sink.old) (O.taken sink.new) (O.faults sink.old) (O.faults sink.new) status)
+        (OtherEnds (next_said (map string_bytes words.now)) (O.taken sink.old) (O.taken sink.new) (O.faults sink.old) (O.faults sink.new) status)
         (λ settings. RunEnds settings (S.left source.old) (S.left source.new) (O.taken sink.old) (O.taken sink.new)
         (S.faults source.old) (S.faults source.new) (O.faults sink.old) (O.faults sink.new) status) }
     // Words that are no command give 2, unless the sink fails.
-    ensures words { IsNone (settings_said (map string_bytes words.now)) → (result ≡ 2) ⊎ (result ≡ 4) }
+    ensures words { IsNone (settings_said (map string_bytes words.now)) → IsNone (next_said (map string_bytes words.now)) → (result ≡ 2) ⊎ (result ≡ 4) }
     // A script within the limits gives 0, a line within the limits that is none 1, a line or an input
     // past its limit 6, unless the source or the sink fails or memory runs out.
     ensures taken { (events : List ClusterEvent) (input : List ℕ) → IsSome (settings_said (map string_bytes words.now)) →
@@ -225,6 +270,6 @@ pub fn replay_main<S: Source, O: Sink>(
 {
     match settings_of(words) {
         Some(settings) => run(alloc, settings, source, sink).code(),
-        None => refuse_words(sink).code(),
+        None => answer_words(alloc, words, sink).code(),
     }
 }

@@ -198,6 +198,155 @@ fn words_are_a_command_or_refused(rt: HostRuntime) -> Result<(), Fail> {
     Ok(())
 }
 
+/// A question for next times, and what must come of it.
+struct Question {
+    words: [&'static str; 5],
+    written: &'static str,
+    status: u8,
+}
+
+const QUESTIONS: [Question; 25] = [
+    Question {
+        words: ["CRON", "0 30 8 ? * MON-FRI", "28800", "1717200000000", "2"],
+        written: "1717374600000\n1717461000000\n",
+        status: 0,
+    },
+    Question {
+        words: ["CRON", "0 0/5 14 * * ?", "0", "1717200000000", "2"],
+        written: "1717250400000\n1717250700000\n",
+        status: 0,
+    },
+    Question {
+        words: ["CRON", "0 0 22-2/2 * * ?", "0", "1717200000000", "3"],
+        written: "1717207200000\n1717279200000\n1717286400000\n",
+        status: 0,
+    },
+    Question {
+        words: ["CRON", "0 0 0 LW * ?", "0", "1717200000000", "1"],
+        written: "1719532800000\n",
+        status: 0,
+    },
+    Question {
+        words: ["CRON", "0 0 0 15W * ?", "0", "1717200000000", "1"],
+        written: "1718323200000\n",
+        status: 0,
+    },
+    Question {
+        words: ["CRON", "0 0 0 1W * ?", "0", "1717200000000", "1"],
+        written: "1717372800000\n",
+        status: 0,
+    },
+    Question {
+        words: ["CRON", "0 0 0 L-3 * ?", "0", "1717200000000", "1"],
+        written: "1719446400000\n",
+        status: 0,
+    },
+    Question {
+        words: ["CRON", "0 0 0 ? * 6#3", "0", "1717200000000", "1"],
+        written: "1718928000000\n",
+        status: 0,
+    },
+    Question {
+        words: ["CRON", "0 0 0 ? * 6L", "0", "1717200000000", "1"],
+        written: "1719532800000\n",
+        status: 0,
+    },
+    Question {
+        words: ["CRON", "0 0 0 ? * FRI#5", "0", "1717200000000", "1"],
+        written: "1724976000000\n",
+        status: 0,
+    },
+    Question {
+        words: ["CRON", "0 0 0 29 2 ? *", "0", "3981300000000", "2"],
+        written: "3981312000000\nnone\n",
+        status: 0,
+    },
+    Question {
+        words: ["FIX_RATE", "10", "0", "4102444780000", "3"],
+        written: "4102444790000\nnone\n",
+        status: 0,
+    },
+    Question {
+        words: ["NONE", "", "-64800", "0", "1000"],
+        written: "none\n",
+        status: 0,
+    },
+    Question {
+        words: ["CRON", "* * * * * *", "0", "0", "1"],
+        written: "bad schedule 6 11\n",
+        status: 2,
+    },
+    Question {
+        words: ["CRON", "0 0 0 32 * ?", "0", "0", "1"],
+        written: "bad schedule 4 7\n",
+        status: 2,
+    },
+    Question {
+        words: ["CRON", "0 0 0 ? *", "0", "0", "1"],
+        written: "bad schedule 6 10\n",
+        status: 2,
+    },
+    Question {
+        words: ["CRON", "0 0 0 1,L * ?", "0", "0", "1"],
+        written: "bad schedule 4 9\n",
+        status: 2,
+    },
+    Question {
+        words: ["CRON", "0 0 0 ? * ? 2099 x", "0", "0", "1"],
+        written: "bad schedule 8 18\n",
+        status: 2,
+    },
+    Question {
+        words: ["CRON", "", "0", "0", "1"],
+        written: "bad schedule 1 1\n",
+        status: 2,
+    },
+    Question {
+        words: ["FIX_RATE", "0", "0", "0", "1"],
+        written: "bad schedule 0 1\n",
+        status: 2,
+    },
+    Question {
+        words: ["cron", "0 0 0 ? *", "0", "0", "1"],
+        written: "bad words\n",
+        status: 2,
+    },
+    Question {
+        words: ["CRON", "0 0 0 ? *", "", "0", "1"],
+        written: "bad words\n",
+        status: 2,
+    },
+    Question {
+        words: ["NONE", "", "0", "4102444800000", "1"],
+        written: "bad words\n",
+        status: 2,
+    },
+    Question {
+        words: ["NONE", "", "0", "0", "0"],
+        written: "bad words\n",
+        status: 2,
+    },
+    Question {
+        words: ["NONE", "", "0", "0", "1001"],
+        written: "bad words\n",
+        status: 2,
+    },
+];
+
+#[test]
+fn next_times_are_told(rt: HostRuntime) -> Result<(), Fail> {
+    for question in &QUESTIONS {
+        let [kind, text, offset, from, count] = question.words;
+        let words = words(&rt, &["next", kind, text, offset, from, count])?;
+        let mut sink = BytesSink::new(rt.alloc());
+        let mut source = BytesSource::new(b"");
+        let status = replay_main(rt.alloc(), words.as_slice(), &mut source, &mut sink);
+        assert_eq!(rt; sink.taken(), question.written.as_bytes());
+        assert_eq!(rt; status, question.status);
+    }
+    Ok(())
+}
+
 #[test]
 fn a_long_line_is_too_large(rt: HostRuntime) -> Result<(), Fail> {
     let run = words(&rt, &["run"])?;

@@ -1,5 +1,6 @@
 use Rattle.std.proofs.Common.{[], append-nil, sym, refl}
 use Rattle.replay_program.proofs.OneEnd.{AllLines, BadOne, LargeOne, yields}
+use Rattle.replay_program.proofs.AnswerLemmas.{refused}
 use Rattle.replay_program.proofs.replay.replay_main.Goals as goal
 
 pub returns-in-Some-clause-taken : goal.returns-in-Some-clause-taken
@@ -13,3 +14,7 @@ returns-in-Some-clause-bad g c = λ events input column says is at.
 pub returns-in-Some-clause-large : goal.returns-in-Some-clause-large
 returns-in-Some-clause-large g c = λ events input says is at.
     rw c.code.ensures (yields c.in-Some.settings _ _ _ _ _ _ _ _ c.run.result LargeOne events input at.whole at.rest c.run.ensures.ends is at.script at.parts (at.some, at.large))
+
+pub returns-in-None-clause-words : goal.returns-in-None-clause-words
+returns-in-None-clause-words g c = λ run next.
+    rw c.code-in-None.ensures (refused _ _ _ _ _ c.answer_words.result next c.answer_words.ensures.ends)

@@ -3,10 +3,11 @@
 #![tactic(auto)]
 
 mod acts;
-mod api_messages;
 mod cron;
 mod lines;
+mod messages;
 mod parts;
+mod replays;
 
 use std::alloc::Global;
 use std::io::Print;
@@ -18,9 +19,10 @@ use std::{env, io};
 fn smoke<R: Print + Clock + Threads + Wait + Sync>(rt: &R, alloc: Global) -> io::Result<()> {
     cron::run(rt, alloc, 20, false)?;
     parts::run(rt, alloc, 2_000, false)?;
-    api_messages::run(rt, alloc, 2, false)?;
+    messages::run(rt, alloc, 2, false)?;
     acts::run(rt, alloc, 200, false)?;
-    lines::run(rt, alloc, 2, false)
+    lines::run(rt, alloc, 2, false)?;
+    replays::run(rt, alloc, 20, false)
 }
 
 fn main(rt: HostRuntime) -> io::Result<()> {
@@ -30,9 +32,10 @@ fn main(rt: HostRuntime) -> io::Result<()> {
             "smoke" => smoke(&rt, alloc)?,
             "cron" => cron::run(&rt, alloc, 200_000, true)?,
             "parts" => parts::run(&rt, alloc, 2_000_000, true)?,
-            "messages" => api_messages::run(&rt, alloc, 1_000, true)?,
+            "messages" => messages::run(&rt, alloc, 1_000, true)?,
             "lock" => acts::run(&rt, alloc, 200_000, true)?,
             "lines" => lines::run(&rt, alloc, 200_000, true)?,
+            "replays" => replays::run(&rt, alloc, 100_000, true)?,
             other => println!(rt; "no workload {other}")?,
         }
     }

@@ -1,5 +1,5 @@
 -- The last line is written behind the replies.
-use Rattle.std.proofs.Common.{◌≡◌, ℕ, ◌+◌, ◌≤◌, List, [], ◌∷◌, ◌++◌, length, take, drop, Option, Some, None, refl, ap, sym, ◌∙◌, subst, arith, append_assoc, append-nil, min}
+use Rattle.std.proofs.Common.{◌≡◌, ℕ, ◌+◌, List, [], ◌++◌, length, take, drop, Option, ap, sym, ◌∙◌, subst, arith, append_assoc, append-nil, min}
 use Rattle.replay_program.proofs.ProgressLemmas.{front_of_at}
 use Rattle.replay_program.proofs.Stopping.{at_small}
 use Rattle.std.proofs.lemmas.List.{take-append-drop}

@@ -1,8 +1,8 @@
 -- The loop over the lines that end in a piece of the script.
-use Rattle.std.proofs.Common.{◌≡◌, ℕ, ◌++◌, ◌+◌, ◌≤◌, List, Option, [], ◌∷◌, refl, append_assoc, append-nil, ap, sym, ◌∙◌, subst, true, false, inl}
+use Rattle.std.proofs.Common.{◌≡◌, ℕ, ◌++◌, List, Option, [], ◌∷◌, refl, append_assoc, append-nil, ap, sym, ◌∙◌, subst, true, false, inl}
 use Rattle.replay_program.proofs.ProgressLemmas.{front_of_has}
 use Rattle.replay_program.specs.Cuts.{is_open, is_within}
-use Rattle.replay_program.specs.Progress.{At, Has, Ends, Front, AtBad, AtLarge, Goes, GoesTo}
+use Rattle.replay_program.specs.Progress.{Has, Ends, Front, Goes, GoesTo}
 use Rattle.replay_program.specs.Script.{Start}
 use Rattle.replay_program.specs.declared.stream.Replay.{Replay}
 use Rattle.replay_program.specs.declared.stream.Ended.{Ended}

@@ -8,3 +8,4 @@ pub mod Closing
 pub mod Running
 pub mod LineEnds
 pub mod OneEnd
+mod WordLemmas

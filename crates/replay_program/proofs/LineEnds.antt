@@ -1,5 +1,5 @@
 -- A line has its end at its end and nowhere else.
-use Rattle.std.proofs.Common.{◌≡◌, ℕ, zero, suc, ◌+◌, ◌/◌, ◌%◌, ◌<◌, ◌≤◌, Bool, true, false, cond, nat_eq, nat_lt, List, [], ◌∷◌, ◌++◌, length, refl, ap, sym, ◌∙◌, subst, arith, append_assoc, length-append, codes}
+use Rattle.std.proofs.Common.{◌≡◌, ℕ, zero, suc, ◌+◌, ◌/◌, ◌%◌, ◌<◌, ◌≤◌, Bool, true, false, cond, nat_eq, nat_lt, List, [], ◌∷◌, ◌++◌, length, refl, ap, arith, length-append, codes}
 use Rattle.std.proofs.lemmas.Bool.{eqb-true, ltb-false}
 use Rattle.std.specs.List.{flat_map}
 use Rattle.std.specs.Fmt.{decimal, digits, digits_onto, digit_glyph}
@@ -20,7 +20,7 @@ use Rattle.job_values.specs.declared.cluster.ClusterEvent.TheVariants.{NodeStart
 use Rattle.line_grammar.specs.Texts.{escape, spelled, hex_digit}
 use Rattle.line_grammar.specs.Writing.{quoted, spaced_text, spaced_number, counted_texts, counted_numbers}
 use Rattle.script_text.specs.Lines.{IsLine}
-use Rattle.script_text.specs.Spelling.{event_words, spelling, spec_text, trigger_text, work_text}
+use Rattle.script_text.specs.Spelling.{event_words, spec_text, trigger_text, work_text}
 use Rattle.script_text.proofs.SpellingLaws.{found}
 use Rattle.replay_program.specs.Cuts.{is_open, next_line}
 use Rattle.replay_program.proofs.CutLemmas.{open_append, next_whole}

@@ -1,5 +1,5 @@
 -- An input ends in one way: all of it is lines, or a line is bad, or one is past a limit.
-use Rattle.std.proofs.Common.{◌≡◌, ℕ, ◌+◌, ◌<◌, Bool, true, false, List, [], ◌∷◌, ◌++◌, length, drop, refl, ap, sym, ◌∙◌, subst, arith, append_assoc, append-nil, length-append, add-zero, zero-add, inl, inr, Option, Some}
+use Rattle.std.proofs.Common.{◌≡◌, ℕ, ◌+◌, ◌<◌, true, false, List, [], ◌∷◌, ◌++◌, length, refl, ap, sym, ◌∙◌, subst, arith, append_assoc, append-nil, length-append, add-zero, zero-add, inl, inr, Option, Some}
 use Rattle.cluster_history.specs.declared.settings.Settings.{Settings}
 use Rattle.replay_program.specs.declared.replay.Status.{Status}
 use Rattle.replay_program.specs.declared.replay.Status.TheVariants as statuses

@@ -1,13 +1,13 @@
 -- A replay goes on: a line more, a flush, bytes that are not a whole line yet.
-use Rattle.std.proofs.Common.{◌≡◌, ℕ, ◌+◌, ◌≤◌, ◌<◌, List, [], ◌∷◌, ◌++◌, length, Option, arith, length-append, append_assoc, ap, sym, ◌∙◌, subst, true, inl, inr, take, drop, append-nil, refl}
+use Rattle.std.proofs.Common.{◌≡◌, ℕ, ◌+◌, ◌≤◌, ◌<◌, List, [], ◌∷◌, ◌++◌, length, Option, arith, length-append, append_assoc, ap, sym, ◌∙◌, subst, true, inr, take, drop, append-nil, refl}
 use Rattle.std.proofs.lemmas.List.{take-append-drop}
 use Rattle.std.specs.Io.KnownBytes.{Appends}
 use Rattle.replay_program.specs.Script.{Start, Plays, Stands, IsBad}
 use Rattle.replay_program.specs.Took.{Answers}
 use Rattle.outside.proofs.KnownLemmas.{appends_both}
-use Rattle.replay_program.specs.Cuts.{is_open, content, is_within}
-use Rattle.replay_program.proofs.CutLemmas.{content_line, open_append}
-use Rattle.replay_program.specs.Progress.{At, Stays, Has, Front, AtBad, AtLarge, Ends, Refuses, IsLineEnd, IsPart}
+use Rattle.replay_program.specs.Cuts.{is_open, is_within}
+use Rattle.replay_program.proofs.CutLemmas.{open_append}
+use Rattle.replay_program.specs.Progress.{At, Stays, Has, Front, Ends, Refuses, IsLineEnd}
 use Rattle.replay_program.specs.declared.stream.Ended.{Ended}
 use Rattle.replay_program.specs.declared.stream.Ended.TheVariants.{Bad, TooLarge, Source, Sink, Memory}
 use Rattle.cluster_history.specs.declared.settings.Settings.{Settings}

@@ -1,9 +1,8 @@
 -- A run ends as its replay and the writing of its last line did.
-use Rattle.std.proofs.Common.{◌≡◌, ℕ, ◌+◌, ◌≤◌, List, [], ◌∷◌, ◌++◌, length, Option, Some, None, Result, Ok, Err, OnOk, IfErr, refl, ap, sym, ◌∙◌, subst, arith, append-nil, inl, inr}
+use Rattle.std.proofs.Common.{◌≡◌, ℕ, ◌≤◌, List, [], ◌++◌, Option, Some, None, Result, Ok, Err, OnOk, IfErr, refl, sym, ◌∙◌, subst, arith, append-nil, inl, inr}
 use Rattle.std.specs.Io.KnownBytes.{Appends}
 use Rattle.outside.specs.Causes.{Rose}
 use Rattle.cluster_history.specs.declared.settings.Settings.{Settings}
-use Rattle.replay_program.specs.declared.machine.Machine.{Machine}
 use Rattle.replay_program.specs.declared.stream.Replay.{Replay}
 use Rattle.replay_program.specs.declared.stream.Ended.{Ended}
 use Rattle.replay_program.specs.declared.stream.Ended.TheVariants.{Bad, TooLarge, Source, Sink, Memory}
@@ -11,7 +10,7 @@ use Rattle.replay_program.specs.declared.replay.Status.TheVariants as status
 use Rattle.replay_program.specs.Script.{Start, Stands, replies_text, report_line}
 use Rattle.replay_program.specs.Progress.{At, Front, StopsBad, StopsLarge, PlaysAll, PlaysTo}
 use Rattle.replay_program.proofs.Feeding.{front_more}
-use Rattle.replay_program.specs.Outcome.{Closed, Short, Fails, LastLine, IsLast, EndedShort, EndedBad, EndedLarge, bad_last, large_last, RunEnds, status_after}
+use Rattle.replay_program.specs.Outcome.{Closed, Short, Fails, LastLine, IsLast, EndedShort, bad_last, large_last, RunEnds, status_after}
 
 -- a rise of a count, told from an earlier count
 rose_before : (before mid now : ℕ) → before ≤ mid → Rose mid now → Rose before now

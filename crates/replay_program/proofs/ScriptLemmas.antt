@@ -9,7 +9,6 @@ use Rattle.cluster_history.specs.declared.settings.Settings.{Settings}
 use Rattle.cluster_history.specs.History.{History, After}
 use Rattle.cluster_history.specs.Replies.{reply_of}
 use Rattle.cluster_history.specs.Runs.{run, replies}
-use Rattle.cluster_core.specs.Kept.{Kept}
 use Rattle.cluster_core.specs.Stands.{StandsFor}
 use Rattle.cluster_core.specs.Stands as core
 use Rattle.script_text.specs.Lines.{IsLine}

@@ -1,10 +1,10 @@
 -- What the bytes that were read say of the whole input.
-use Rattle.std.proofs.Common.{◌≡◌, ℕ, zero, ◌+◌, ◌<◌, ◌≤◌, Bool, true, false, List, [], ◌∷◌, ◌++◌, length, Option, Some, None, refl, ap, sym, ◌∙◌, subst, arith, append_assoc, append-nil, length-append, zero-add}
-use Rattle.std.specs.Io.KnownBytes.{Consumes, IsAtEnd, Appends}
-use Rattle.replay_program.specs.declared.stream.TheConstants.{LAST_LINE_BYTES, LAST_INPUT_BYTES}
-use Rattle.replay_program.specs.Cuts.{is_open, next_line, is_within}
-use Rattle.replay_program.specs.Script.{Start, IsBad}
-use Rattle.replay_program.specs.Progress.{At, Has, Front, AtBad, AtLarge, Ends, Stops, StopsBad, StopsLarge, Refuses, Goes, GoesTo, PlaysAll, PlaysTo}
+use Rattle.std.proofs.Common.{◌≡◌, ℕ, ◌<◌, ◌≤◌, true, List, [], ◌∷◌, ◌++◌, length, Option, Some, None, refl, ap, sym, ◌∙◌, subst, arith, append_assoc, append-nil, length-append}
+use Rattle.std.specs.Io.KnownBytes.{Consumes, IsAtEnd}
+use Rattle.replay_program.specs.declared.stream.TheConstants.{LAST_INPUT_BYTES}
+use Rattle.replay_program.specs.Cuts.{is_open, next_line}
+use Rattle.replay_program.specs.Script.{Start}
+use Rattle.replay_program.specs.Progress.{At, Has, Ends, Stops, Refuses, Goes, GoesTo, PlaysAll, PlaysTo}
 use Rattle.replay_program.specs.declared.stream.Replay.{Replay}
 use Rattle.replay_program.specs.declared.stream.Ended.{Ended}
 use Rattle.replay_program.specs.declared.stream.Ended.TheVariants.{Bad, TooLarge, Source, Sink, Memory}

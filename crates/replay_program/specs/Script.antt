@@ -3,7 +3,6 @@ use Rattle.std.specs.Prelude.{ℕ, ◌≡◌, ◌+◌, true, List, [], ◌∷◌
 use Rattle.std.specs.List.{flat_map}
 use Rattle.job_values.specs.declared.job.Report.{Report}
 use Rattle.job_values.specs.declared.cluster.ClusterEvent.{ClusterEvent}
-use Rattle.job_values.specs.declared.cluster.ClusterReply.{ClusterReply}
 use Rattle.cluster_history.specs.declared.settings.Settings.{Settings}
 use Rattle.cluster_history.specs.History.{History, Begin, empty_opening}
 use Rattle.cluster_history.specs.Runs.{run, replies, report_of}

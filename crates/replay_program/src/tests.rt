@@ -16,7 +16,7 @@ const JOB: &str =
 
 const JOB_REPLIES: &str = "ok\ngroup 1\njob 1\n";
 
-const ROWS: [Row; 17] = [
+const ROWS: [Row; 21] = [
     Row {
         script: "startjob 100000 1\nscan 0 109999\nscan 0 110000\nstep 0\nturn 0 115000\nturn 0 115000\n",
         written: "running 1 115000\nbegun 0\nbegun 1\nlook 1 early 115000 125000 115000 0\nfired 1 1 1 115000 1 1:fast\nfired 0\nend entries 9 jobs 1 logs 1 settled 0 failed 0 waiting 0 queued 1 held 0\n",
@@ -40,6 +40,26 @@ const ROWS: [Row; 17] = [
     Row {
         script: "startjob 110000 1\nscan 0 130001\nstep 0\n",
         written: "running 1 125000\nbegun 1\nlook 1 misfire 125000 140001 - 0\nend entries 6 jobs 1 logs 0 settled 0 failed 0 waiting 0 queued 0 held 0\n",
+        status: 0,
+    },
+    Row {
+        script: "addjob 1 FIX_RATE \"10\" FIRE_ONCE_NOW FIRST SERIAL_EXECUTION \"demo\" \"\" 0 0 0\nstartjob 110000 2\nscan 0 130001\nstep 0\n",
+        written: "job 2\nrunning 1 125000\nbegun 1\nlook 2 misfire 125000 140001 - 1 1:fast\nend entries 7 jobs 2 logs 1 settled 0 failed 0 waiting 0 queued 1 held 0\n",
+        status: 0,
+    },
+    Row {
+        script: "addjob 1 FIX_RATE \"3\" DO_NOTHING FIRST SERIAL_EXECUTION \"demo\" \"\" 0 0 0\nstartjob 117000 2\nscan 0 127000\nstep 0\n",
+        written: "job 2\nrunning 1 125000\nbegun 1\nlook 2 late 125000 133000 130000 1 1:fast\nend entries 7 jobs 2 logs 1 settled 0 failed 0 waiting 1 queued 1 held 0\n",
+        status: 0,
+    },
+    Row {
+        script: "addjob 1 FIX_RATE \"5\" DO_NOTHING FIRST SERIAL_EXECUTION \"demo\" \"\" 0 0 0\nstartjob 115000 2\nscan 0 127000\nstep 0\n",
+        written: "job 2\nrunning 1 125000\nbegun 1\nlook 2 late 125000 132000 - 1 1:fast\nend entries 7 jobs 2 logs 1 settled 0 failed 0 waiting 0 queued 1 held 0\n",
+        status: 0,
+    },
+    Row {
+        script: "addjob 1 CRON \"0 0 0 29 2 ? *\" DO_NOTHING FIRST SERIAL_EXECUTION \"demo\" \"\" 0 0 0\nstartjob 3981300000000 2\nscan 0 3981311999000\nstep 0\nscan 0 3981312000000\nstartjob 3981312000000 2\naddjob 1 CRON \"* * * * * *\" DO_NOTHING FIRST SERIAL_EXECUTION \"demo\" \"\" 0 0 0\n",
+        written: "job 2\nrunning 1 3981312000000\nbegun 1\nlook 2 early 3981312000000 - 3981312000000 0\nbegun 0\nno NoNext\nno BadSchedule 6 11\nend entries 10 jobs 2 logs 0 settled 0 failed 0 waiting 1 queued 0 held 0\n",
         status: 0,
     },
     Row {
@@ -105,15 +125,17 @@ const ROWS: [Row; 17] = [
 ];
 
 /// The words of a command.
-fn words(rt: &impl Alloc<A = std::alloc::Global>, word: &str) -> Result<Vec<String>, Fail> {
+fn words(rt: &impl Alloc<A = std::alloc::Global>, of: &[&str]) -> Result<Vec<String>, Fail> {
     let mut words = Vec::new(rt.alloc());
-    words.push(String::from_str(rt.alloc(), word)?)?;
+    for word in of {
+        words.push(String::from_str(rt.alloc(), word)?)?;
+    }
     Ok(words)
 }
 
 #[test]
 fn rows_are_played(rt: HostRuntime) -> Result<(), Fail> {
-    let run = words(&rt, "run")?;
+    let run = words(&rt, &["run"])?;
     for row in &ROWS {
         let script = format!(in rt.alloc(); "{}{}", JOB, row.script)?;
         let written = format!(in rt.alloc(); "{}{}", JOB_REPLIES, row.written)?;
@@ -127,8 +149,8 @@ fn rows_are_played(rt: HostRuntime) -> Result<(), Fail> {
 }
 
 #[test]
-fn nothing_is_reported_and_wrong_words_are_refused(rt: HostRuntime) -> Result<(), Fail> {
-    let run = words(&rt, "run")?;
+fn an_empty_script_is_reported(rt: HostRuntime) -> Result<(), Fail> {
+    let run = words(&rt, &["run"])?;
     let mut sink = BytesSink::new(rt.alloc());
     let status = replay_main(
         rt.alloc(),
@@ -141,22 +163,44 @@ fn nothing_is_reported_and_wrong_words_are_refused(rt: HostRuntime) -> Result<()
         b"end entries 0 jobs 0 logs 0 settled 0 failed 0 waiting 0 queued 0 held 0\n".as_slice()
     );
     assert_eq!(rt; status, 0);
-    let other = words(&rt, "walk")?;
-    let mut sink = BytesSink::new(rt.alloc());
-    let status = replay_main(
-        rt.alloc(),
-        other.as_slice(),
-        &mut BytesSource::new(b""),
-        &mut sink,
-    );
-    assert_eq!(rt; sink.taken(), b"bad words\n".as_slice());
-    assert_eq!(rt; status, 2);
+    Ok(())
+}
+
+#[test]
+fn words_are_a_command_or_refused(rt: HostRuntime) -> Result<(), Fail> {
+    for (of, wanted) in [
+        (["run", "0", "8", "4"].as_slice(), 0),
+        (["run", "-0", "200", "100"].as_slice(), 0),
+        (["run", "-64800", "1", "1"].as_slice(), 0),
+        (["run", "64801", "8", "4"].as_slice(), 2),
+        (["run", "00", "8", "4"].as_slice(), 2),
+        (["run", "+0", "8", "4"].as_slice(), 2),
+        (["run", "0", "0", "4"].as_slice(), 2),
+        (["run", "0", "201", "4"].as_slice(), 2),
+        (["run", "0", "8", "101"].as_slice(), 2),
+        (["run", "0", "8", "4294967300"].as_slice(), 2),
+        (["run", "0", "8"].as_slice(), 2),
+        (["walk"].as_slice(), 2),
+        ([].as_slice(), 2),
+    ] {
+        let words = words(&rt, of)?;
+        let mut sink = BytesSink::new(rt.alloc());
+        let mut source = BytesSource::new(b"start 0\n");
+        let status = replay_main(rt.alloc(), words.as_slice(), &mut source, &mut sink);
+        assert_eq!(rt; status, wanted);
+        let told = if wanted == 2 {
+            b"bad words\n".as_slice()
+        } else {
+            b"ok\nend ".as_slice()
+        };
+        assert!(rt; sink.taken().starts_with(told));
+    }
     Ok(())
 }
 
 #[test]
 fn a_long_line_is_too_large(rt: HostRuntime) -> Result<(), Fail> {
-    let run = words(&rt, "run")?;
+    let run = words(&rt, &["run"])?;
     let line = vec![in rt.alloc(); b'x'; 262_145]?;
     let mut sink = BytesSink::new(rt.alloc());
     let status = replay_main(
@@ -172,7 +216,7 @@ fn a_long_line_is_too_large(rt: HostRuntime) -> Result<(), Fail> {
 
 #[test]
 fn each_read_and_each_write_may_fail(rt: HostRuntime) -> Result<(), Fail> {
-    let run = words(&rt, "run")?;
+    let run = words(&rt, &["run"])?;
     let whole =
         b"ok\nno NodeRunning 0\nend entries 2 jobs 0 logs 0 settled 0 failed 0 waiting 0 queued 0 held 0\n";
     for call in 1..10u64 {

@@ -1,4 +1,4 @@
-use Rattle.std.proofs.Common.{◌≡◌, ◌++◌, List, ℕ, ap, ◌∙◌}
+use Rattle.std.proofs.Common.{◌++◌, ap, ◌∙◌}
 use Rattle.replay_program.specs.Outcome.{large_last, large_line}
 use Rattle.replay_program.proofs.Closing.{closed, short, front_whole, line_number}
 use Rattle.replay_program.proofs.replay.end_with_large.Goals as goal

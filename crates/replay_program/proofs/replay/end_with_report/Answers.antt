@@ -1,4 +1,3 @@
-use Rattle.std.proofs.Common.{◌≡◌, List, ℕ}
 use Rattle.replay_program.specs.Script.{report_line}
 use Rattle.replay_program.proofs.Closing.{closed, short, front_whole}
 use Rattle.replay_program.proofs.replay.end_with_report.Goals as goal

@@ -1,4 +1,4 @@
-use Rattle.std.proofs.Common.{◌≡◌, ◌++◌, [], List, ℕ, append-nil, sym, refl}
+use Rattle.std.proofs.Common.{[], append-nil, sym, refl}
 use Rattle.replay_program.proofs.OneEnd.{AllLines, BadOne, LargeOne, yields}
 use Rattle.replay_program.proofs.replay.replay_main.Goals as goal
 

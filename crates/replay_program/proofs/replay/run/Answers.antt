@@ -1,5 +1,4 @@
-use Rattle.std.proofs.Common.{◌≡◌, List, ℕ, [], refl}
-use Rattle.replay_program.specs.Progress.{At}
+use Rattle.std.proofs.Common.{refl}
 use Rattle.replay_program.specs.declared.stream.Replay.{Replay}
 use Rattle.replay_program.proofs.Running.{at_first, run_done, run_bad, run_large, ended_front, front_nothing}
 use Rattle.replay_program.proofs.replay.run.Goals as goal

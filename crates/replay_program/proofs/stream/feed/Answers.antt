@@ -1,7 +1,7 @@
-use Rattle.std.proofs.Common.{◌≡◌, ℕ, ◌++◌, ◌+◌, ◌≤◌, [], List, length, vec_len, take, drop, refl, arith, ap, sym, ◌∙◌, subst, length-append}
+use Rattle.std.proofs.Common.{◌≡◌, ℕ, ◌++◌, ◌+◌, length, refl, arith, ap, sym, length-append}
 use Rattle.std.proofs.lemmas.List.{take-append-drop}
 use Rattle.replay_program.proofs.CutLemmas.{open_append}
-use Rattle.replay_program.proofs.Feeding.{Fed, fed_more, ends_fed, goes_pending, front_fed}
+use Rattle.replay_program.proofs.Feeding.{fed_more, ends_fed, goes_pending, front_fed}
 use Rattle.replay_program.proofs.stream.feed.Goals as goal
 
 pub returns-in-Err-clause-err : goal.returns-in-Err-clause-err

@@ -1,4 +1,4 @@
-use Rattle.std.proofs.Common.{◌≡◌, ◌++◌, ◌+◌, ◌≤◌, vec_len, length, true}
+use Rattle.std.proofs.Common.{◌≡◌, ◌+◌, ◌≤◌, vec_len, length, true}
 use Rattle.replay_program.specs.Cuts.{is_open}
 use Rattle.replay_program.proofs.Feeding.{Fed}
 use Rattle.replay_program.proofs.stream.feed.Given as goal

@@ -1,5 +1,4 @@
-use Rattle.std.proofs.Common.{◌≡◌, ℕ, length, ap, sym, ◌∙◌, rules, false}
-use Rattle.replay_program.specs.Cuts.{is_open, content, is_within}
+use Rattle.std.proofs.Common.{sym}
 use Rattle.replay_program.proofs.CutLemmas.{content_open}
 use Rattle.replay_program.proofs.Feeding.{large_pending}
 use Rattle.replay_program.proofs.stream.feed_within.Goals as goal

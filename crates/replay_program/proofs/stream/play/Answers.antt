@@ -1,4 +1,3 @@
-use Rattle.std.proofs.Common.{◌≡◌, length, ap, sym, [], List, ℕ}
 use Rattle.replay_program.proofs.Stopping.{plays_all, plays_to, plays_to_tail}
 use Rattle.replay_program.proofs.stream.play.Goals as goal
 

@@ -1,4 +1,4 @@
-use Rattle.std.proofs.Common.{◌≡◌, ℕ, ◌+◌, ◌≤◌, ◌++◌, [], List, Option, Some, None, length, take, arith, refl, append-nil, ◌∙◌, sym, subst}
+use Rattle.std.proofs.Common.{ℕ, List, Option, Some, None, arith}
 use Rattle.std.specs.Io.KnownBytes.{Consumes, Keeps}
 use Rattle.outside.proofs.KnownLemmas.{consumes_both}
 use Rattle.replay_program.proofs.Feeding.{goes_both, goes_to, front_gone}

@@ -1,4 +1,4 @@
-use Rattle.std.proofs.Common.{◌≡◌, ◌+◌, ◌-◌, ◌≤◌, ℕ, List, vec_len, length, true}
+use Rattle.std.proofs.Common.{◌≡◌, ◌+◌, ◌-◌, ◌≤◌, ℕ, List, vec_len, true}
 use Rattle.std.specs.Io.KnownBytes.{Consumes}
 use Rattle.replay_program.specs.Cuts.{is_open}
 use Rattle.replay_program.specs.Progress.{Goes}

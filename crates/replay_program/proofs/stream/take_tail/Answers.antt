@@ -1,4 +1,4 @@
-use Rattle.std.proofs.Common.{◌≡◌, length, ap, sym}
+use Rattle.std.proofs.Common.{length, ap, sym}
 use Rattle.replay_program.proofs.CutLemmas.{content_open}
 use Rattle.replay_program.proofs.stream.take_tail.Goals as goal
 

@@ -1,5 +1,4 @@
-use Rattle.std.proofs.Common.{◌≡◌, ℕ, ◌+◌, ◌-◌, ◌++◌, [], List, length, arith, ap, sym, ◌∙◌, subst}
-use Rattle.replay_program.specs.Progress.{At, Has, Ends, Front}
+use Rattle.std.proofs.Common.{◌≡◌, ◌++◌, [], length, arith, ap, sym, ◌∙◌}
 use Rattle.replay_program.proofs.CutLemmas.{length_content}
 use Rattle.replay_program.proofs.ProgressLemmas.{has_line, has_flushed, ends_refused, front_of_has, front_failed}
 use Rattle.replay_program.proofs.stream.Replay.end_line.Goals as goal

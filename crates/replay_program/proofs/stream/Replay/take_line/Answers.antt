@@ -1,4 +1,4 @@
-use Rattle.std.proofs.Common.{◌≡◌, ℕ, ◌+◌, arith, refl, length, sym}
+use Rattle.std.proofs.Common.{◌+◌, arith, refl, length, sym}
 use Rattle.replay_program.specs.declared.stream.Replay.{Replay}
 use Rattle.replay_program.proofs.ProgressLemmas.{at_more}
 use Rattle.replay_program.proofs.stream.Replay.take_line.Goals as goal

@@ -1,5 +1,5 @@
 //! `xxl_replay`: plays the script that standard input gives, and writes the replies and the report to
-//! standard output.
+//! standard output; or writes the next times of a schedule.
 #![tactic(auto)]
 
 use outside::{StreamSink, StreamSource};

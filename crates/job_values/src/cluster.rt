@@ -1,8 +1,8 @@
 //! The events of the cluster, their replies and their refusals.
 
-use super::bounded::{Addresses, AppName};
-use super::job::{FiredTicket, JobSpec, Opened, ScheduleFault};
-use super::numbers::{AdminNo, Edition, GroupId, JobId, Moment};
+use super::bounded::{Addresses, AppName, ParamText};
+use super::job::{FiredTicket, JobSpec, Opened, ScheduleFault, ShownLog};
+use super::numbers::{AdminNo, Edition, GroupId, JobId, LogId, Moment};
 use super::seq::Seq;
 use super::words::{Case, GroupKind};
 
@@ -11,18 +11,36 @@ use super::words::{Case, GroupKind};
 pub enum ClusterEvent {
     /// An admin starts.
     NodeStart(AdminNo),
+    /// An admin stops, and loses its ring and what its pools hold.
+    NodeStop(AdminNo),
+    /// Whether an admin runs.
+    NodeAsk(AdminNo),
     /// A group is added.
     AddGroup(AppName, GroupKind, Addresses),
+    /// A group gets another kind and other addresses.
+    SetGroup(GroupId, GroupKind, Addresses),
     /// A job is added; it is stopped.
     AddJob(JobSpec),
+    /// A job gets another spec at a moment; it runs on where it ran.
+    UpdateJob(Moment, JobId, JobSpec),
     /// A job is started at a moment.
     StartJob(Moment, JobId),
+    /// A job is stopped.
+    StopJob(JobId),
+    /// A job is removed; its logs stay.
+    RemoveJob(JobId),
+    /// A job is fired by hand on an admin at a moment, with this parameter or its own.
+    TriggerJob(AdminNo, Moment, JobId, Option<ParamText>),
     /// An admin takes the schedule lock at a moment.
     ScanBegin(AdminNo, Moment),
     /// The owner of the lock looks at the next job of its page.
     ScanStep(AdminNo),
     /// The ring of an admin turns at a moment.
     Turn(AdminNo, Moment),
+    /// What is known of a log.
+    ReadLog(LogId),
+    /// All admins stop.
+    Reopen,
 }
 
 /// The answer to an event.
@@ -36,6 +54,10 @@ pub enum ClusterReply {
     Job(JobId),
     /// The job runs, in this edition, and is due at this moment next.
     Running(Edition, Moment),
+    /// The job has this edition, and is due at this moment next where it runs.
+    Updated(Edition, Option<Moment>),
+    /// The job is stopped, in this edition.
+    Halted(Edition),
     /// A scan began, with this many jobs on its page.
     Begun(u64),
     /// The job is gone or has another edition than on the page.
@@ -45,6 +67,14 @@ pub enum ClusterReply {
     Look(JobId, Case, Moment, Option<Moment>, Option<Moment>, Seq<Opened>),
     /// The tickets that a turn took, in order.
     Fired(Seq<FiredTicket>),
+    /// The logs that a firing by hand opened.
+    Opened(Seq<Opened>),
+    /// The log.
+    Shown(ShownLog),
+    /// How many tickets a stop lost, and how many logs it gave their end.
+    Stopped(u64, u64),
+    /// The same of the stop of all admins.
+    Reopened(u64, u64),
     /// It was refused, and changed nothing.
     Refused(ClusterRefusal),
 }
@@ -64,6 +94,8 @@ pub enum ClusterRefusal {
     NoGroup,
     /// No job has the id.
     NoJob,
+    /// No log has the id.
+    NoLog,
     /// The schedule's text is none of its kind.
     BadSchedule(ScheduleFault),
     /// The job has no time after the moment and the time that a start looks ahead.

@@ -1,11 +1,13 @@
 //! What a user says of a job, and what a run's log is ordered to do.
 ghost use Rattle.std.specs.Prelude.{◌≡◌, IfOk};
 
-use super::bounded::{Address, Addresses, Children, HandlerName, ParamText, ScheduleText};
+use super::bounded::{
+    Address, Addresses, Children, HandlerName, ParamText, ResultText, ScheduleText,
+};
 use super::no_memory::NoMemory;
 use super::numbers::{Edition, GroupId, JobId, LogId, Moment, Retries, ShardNo, Timeout};
 use super::seq::Seq;
-use super::words::{Block, Misfire, PoolAnswer, Route, ScheduleKind};
+use super::words::{Block, Misfire, PoolAnswer, Route, ScheduleKind, TriggerKind};
 use std::alloc::Global;
 
 /// What a user says of a job.
@@ -94,6 +96,30 @@ pub struct FiredTicket {
     pub edition: Edition,
     pub due: Moment,
     pub opened: Seq<Opened>,
+}
+
+/// What is shown of a log.
+#[derive(Debug, Drop)]
+pub struct ShownLog {
+    pub log: LogId,
+    pub job: JobId,
+    pub group: GroupId,
+    /// Where it was sent.
+    pub address: Option<Address>,
+    pub handler: HandlerName,
+    pub param: ParamText,
+    pub index: ShardNo,
+    pub total: ShardNo,
+    pub retries: Retries,
+    pub kind: TriggerKind,
+    /// When it was opened.
+    pub time: Moment,
+    pub trigger_code: i32,
+    pub result_time: Option<Moment>,
+    pub result_code: i32,
+    pub result_text: ResultText,
+    /// Whether it was looked at as a failed one.
+    pub marked: bool,
 }
 
 /// What is counted of a history. Each count stays at its greatest value once it is there.

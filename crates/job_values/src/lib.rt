@@ -24,7 +24,7 @@ pub use cluster::{ClusterEvent, ClusterRefusal, ClusterReply};
 pub use executor::{
     ExecutorEvent, ExecutorRefusal, ExecutorReply, FinishCode, PolledRun, ReadLines,
 };
-pub use job::{Choice, FiredTicket, JobSpec, Opened, Order, Report, ScheduleFault};
+pub use job::{Choice, FiredTicket, JobSpec, Opened, Order, Report, ScheduleFault, ShownLog};
 pub use no_memory::NoMemory;
 pub use numbers::{
     AdminNo, Edition, ExecutorNo, GroupId, JobId, LineNo, LogId, LogMoment, Moment, Offset,

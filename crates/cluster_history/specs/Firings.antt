@@ -1,5 +1,5 @@
 -- Which jobs an entry fires, and for which shards.
-use Rattle.std.specs.Prelude.{ℕ, List, [], ◌∷◌, ◌++◌, map, length, max, Bool, true, false, Option, Some, None, if◌then◌else◌}
+use Rattle.std.specs.Prelude.{ℕ, List, [], ◌∷◌, ◌++◌, map, length, max, Option, Some, None, unwrap_or, if◌then◌else◌}
 use Rattle.std.specs.List.{range_with_len}
 use Rattle.job_values.specs.declared.words.Route.{Route}
 use Rattle.job_values.specs.declared.words.Route.TheVariants.{ShardingBroadcast}
@@ -17,9 +17,10 @@ use Rattle.cluster_history.specs.Looks.{Looked, job_with}
 use Rattle.cluster_history.specs.Jobs.{jobs_of, scan_of, look_of}
 use Rattle.cluster_history.specs.Tickets.{waiting, taken, second_of}
 
--- one log that a firing of a job is to open: the job's row, why and when it fires, and the shard
+-- one log that a firing of a job is to open: the job's row, the parameter, why and when it fires, and the shard
 pub record Shot : Type 0 where
   pub row : Job
+  pub param : List ℕ
   pub kind : TriggerKind
   pub time : ℕ
   pub index : ℕ
@@ -31,17 +32,26 @@ shards ShardingBroadcast addresses = max 1 (length addresses)
 shards _ addresses = 1
 
 -- the log of one shard
-abbrev pub shot_for : Job → TriggerKind → ℕ → ℕ → ℕ → Shot
-shot_for row kind time total index = record { row = row; kind = kind; time = time; index = index; total = total }
+abbrev pub shot_for : Job → List ℕ → TriggerKind → ℕ → ℕ → ℕ → Shot
+shot_for row param kind time total index = record { row = row; param = param; kind = kind; time = time; index = index; total = total }
 
 -- one for each shard, in order
-abbrev pub shots_by : Job → TriggerKind → ℕ → ℕ → List Shot
-shots_by row kind time total = map (λ index. shot_for row kind time total index) (range_with_len 0 total)
+abbrev pub shots_by : Job → List ℕ → TriggerKind → ℕ → ℕ → List Shot
+shots_by row param kind time total = map (λ index. shot_for row param kind time total index) (range_with_len 0 total)
 
--- the logs that a firing of a job is to open, in order of their shards
+-- the logs that a firing of a job with a parameter is to open, in order of their shards
+abbrev pub shots_with : List Group → List ℕ → TriggerKind → ℕ → Job → List Shot
+shots_with groups param kind time row =
+    shots_by row param kind time (shards row.spec.route (addresses_in (group_with row.spec.group groups)))
+
+-- the same with the parameter of the job
 abbrev pub shots_of : List Group → TriggerKind → ℕ → Job → List Shot
-shots_of groups kind time row =
-    shots_by row kind time (shards row.spec.route (addresses_in (group_with row.spec.group groups)))
+shots_of groups kind time row = shots_with groups row.spec.param kind time row
+
+-- a firing by hand, with the given parameter or that of the job
+abbrev pub shots_by_hand : List Group → Option (List ℕ) → ℕ → Option Job → List Shot
+shots_by_hand groups param time None = []
+shots_by_hand groups param time (Some row) = shots_with groups (unwrap_or param row.spec.param) kind.Manual time row
 
 -- a job that is gone fires nothing
 abbrev pub shots_if : List Group → TriggerKind → ℕ → Option Job → List Shot
@@ -81,3 +91,7 @@ shots_stepped h = shots_scanned (groups_of h) (scan_of h) (look_of h)
 -- the logs that a turn of an admin at a moment is to open, in order
 abbrev pub shots_turned : History → ℕ → ℕ → List Shot
 shots_turned h admin at = shots_for (groups_of h) (jobs_of h) at (taken admin (second_of at) (waiting h))
+
+-- the logs that a firing of a job by hand is to open, in order
+abbrev pub shots_asked : History → ℕ → ℕ → Option (List ℕ) → List Shot
+shots_asked h at job param = shots_by_hand (groups_of h) param at (job_with job (jobs_of h))

@@ -1,6 +1,6 @@
 -- The jobs and the scans.
-use Rattle.std.specs.Prelude.{ℕ, ◌+◌, ℤ, ◌==◌, List, [], ◌∷◌, ◌++◌, map, false, Option, Some, None, is_some, unwrap_or, Result, Ok, Err, if◌then◌else◌}
-use Rattle.job_values.specs.declared.cluster.ClusterEvent.TheVariants.{AddJob, StartJob, ScanBegin, ScanStep}
+use Rattle.std.specs.Prelude.{ℕ, ◌+◌, ℤ, ◌==◌, List, [], ◌∷◌, ◌++◌, map, filter, false, not, Option, Some, None, is_some, unwrap_or, Result, Ok, Err, if◌then◌else◌}
+use Rattle.job_values.specs.declared.cluster.ClusterEvent.TheVariants.{NodeStop, AddJob, UpdateJob, StartJob, StopJob, RemoveJob, ScanBegin, ScanStep, Reopen}
 use Rattle.job_values.specs.declared.job.JobSpec.{JobSpec}
 use Rattle.job_values.specs.declared.job.ScheduleFault.{ScheduleFault}
 use Rattle.job_values.specs.declared.words.ScheduleKind.TheVariants as kind
@@ -16,7 +16,7 @@ use Rattle.cluster_history.specs.declared.limits.TheConstants.{LOOK_AHEAD}
 use Rattle.cluster_history.specs.declared.scan.Scan.{Scan}
 use Rattle.cluster_history.specs.declared.scan.Seat.{Seat}
 use Rattle.cluster_history.specs.History.{History, Begin, After, Opening, settings_of}
-use Rattle.cluster_history.specs.Pages.{page_in, page_limit, begun, stepped}
+use Rattle.cluster_history.specs.Pages.{page_in, page_limit, begun, stepped, unless_owner}
 use Rattle.cluster_history.specs.Looks.{Looked, look_in, next_looked, job_with}
 
 -- the id of the last job that was added
@@ -29,6 +29,7 @@ last_job (After h _ r) = last_job h
 abbrev pub ids_of : History → List ℕ
 ids_of (Begin o) = map (λ job. job.id) o.jobs
 ids_of (After h (AddJob spec) r) = ids_of h ++ (last_job h + 1) ∷ []
+ids_of (After h (RemoveJob job) r) = filter (λ id. not (id == job)) (ids_of h)
 ids_of (After h _ r) = ids_of h
 
 -- stands for a job that was never there
@@ -43,17 +44,20 @@ no_job = record { id = 0; spec = no_spec; schedule = Never; running = false; edi
 abbrev pub opened_row : Opening → ℕ → Job
 opened_row o j = unwrap_or (job_with j o.jobs) no_job
 
--- a job's spec is that of its adding
+-- a job's spec is that of its adding or its last update
 abbrev pub spec_of : History → ℕ → JobSpec
 spec_of (Begin o) j = (opened_row o j).spec
 spec_of (After h (AddJob spec) r) j = if j == last_job h + 1 then spec else spec_of h j
+spec_of (After h (UpdateJob at job spec) r) j = if j == job then spec else spec_of h j
 spec_of (After h _ r) j = spec_of h j
 
--- its edition counts its starts
+-- its edition counts its starts, stops and updates
 abbrev pub edition_of : History → ℕ → ℕ
 edition_of (Begin o) j = (opened_row o j).edition
 edition_of (After h (AddJob spec) r) j = if j == last_job h + 1 then 0 else edition_of h j
 edition_of (After h (StartJob at job) r) j = if j == job then edition_of h j + 1 else edition_of h j
+edition_of (After h (StopJob job) r) j = if j == job then edition_of h j + 1 else edition_of h j
+edition_of (After h (UpdateJob at job spec) r) j = if j == job then edition_of h j + 1 else edition_of h j
 edition_of (After h _ r) j = edition_of h j
 
 -- what a text says as a schedule; with a fault, never
@@ -68,6 +72,11 @@ plan_of spec = plan_said (parsed spec.kind spec.schedule)
 -- the first time of a job that is started at a moment
 abbrev pub first_time : ℤ → Plan → ℕ → Option ℕ
 first_time offset plan at = time_after plan offset (at + LOOK_AHEAD)
+
+-- the next time of a job that is updated at a moment: a new first time where it ran
+abbrev pub updated_time : ℤ → Plan → ℕ → Option ℕ → Option ℕ
+updated_time offset plan at None = None
+updated_time offset plan at (Some before) = first_time offset plan at
 
 -- a job's row, by what is said of it; it runs where it has a next time
 abbrev pub row_by : (ℕ → JobSpec) → (ℕ → ℕ) → (ℕ → Option ℕ) → ℕ → Job
@@ -89,6 +98,9 @@ abbrev mutual
   next_of (After h (AddJob spec) r) j = if j == last_job h + 1 then None else next_of h j
   next_of (After h (StartJob at job) r) j =
       if j == job then first_time (settings_of h).offset (plan_of (spec_of h j)) at else next_of h j
+  next_of (After h (StopJob job) r) j = if j == job then None else next_of h j
+  next_of (After h (UpdateJob at job spec) r) j =
+      if j == job then updated_time (settings_of h).offset (plan_of spec) at (next_of h j) else next_of h j
   next_of (After h (ScanStep admin) r) j =
       next_looked (look_by (settings_of h).offset (scan_of h) (spec_of h) (edition_of h) (next_of h) (ids_of h)) j (next_of h j)
   next_of (After h _ r) j = next_of h j
@@ -98,6 +110,8 @@ abbrev mutual
   scan_of (After h (ScanBegin admin at) r) =
       begun admin at (page_by (page_limit (settings_of h)) at (spec_of h) (edition_of h) (next_of h) (ids_of h))
   scan_of (After h (ScanStep admin) r) = stepped (scan_of h)
+  scan_of (After h (NodeStop admin) r) = unless_owner admin (scan_of h)
+  scan_of (After h Reopen r) = None
   scan_of (After h _ r) = scan_of h
 
 -- the row of a job

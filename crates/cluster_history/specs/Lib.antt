@@ -8,4 +8,5 @@ pub mod Tickets
 pub mod Firings
 pub mod Logs
 pub mod Replies
+pub mod Registrations
 pub mod Runs

@@ -1,5 +1,5 @@
 -- The pages of scans.
-use Rattle.std.specs.Prelude.{ℕ, ◌+◌, ◌*◌, ◌<◌, List, [], ◌∷◌, map, filter, take, length, Bool, false, nat_le, nat_lt, Option, Some, None, if◌then◌else◌}
+use Rattle.std.specs.Prelude.{ℕ, ◌+◌, ◌*◌, List, [], ◌∷◌, map, filter, take, length, ◌==◌, Bool, false, nat_le, nat_lt, Option, Some, None, if◌then◌else◌}
 use Rattle.job_records.specs.declared.job.Job.{Job}
 use Rattle.cluster_history.specs.declared.limits.TheConstants.{LOOK_AHEAD, JOBS_PER_THREAD}
 use Rattle.cluster_history.specs.declared.settings.Settings.{Settings}
@@ -34,6 +34,11 @@ one_step scan =
     if nat_lt (scan.steps + 1) (length scan.page)
     then Some (record { owner = scan.owner; at = scan.at; page = scan.page; steps = scan.steps + 1 })
     else None
+
+-- a stop of its owner ends a scan
+abbrev pub unless_owner : ℕ → Option Scan → Option Scan
+unless_owner admin None = None
+unless_owner admin (Some scan) = if scan.owner == admin then None else Some scan
 
 -- the open scan after a step
 abbrev pub stepped : Option Scan → Option Scan

@@ -1,30 +1,32 @@
 -- The reply of each event: the first refusal that applies, in order, else what was done.
-use Rattle.std.specs.Prelude.{ℕ, ◌+◌, ℤ, List, [], ◌∷◌, map, length, Bool, true, false, nat_lt, is_some, Option, Some, None, Result, Ok, Err, slice_get, ◌==◌, if◌then◌else◌}
+use Rattle.std.specs.Prelude.{ℕ, ◌+◌, ◌-◌, ◌^◌, ℤ, min, sum, List, [], ◌∷◌, map, length, Bool, true, false, nat_lt, is_some, Option, Some, None, Result, Ok, Err, slice_get, ◌==◌, if◌then◌else◌}
 use Rattle.job_values.specs.declared.numbers.TheConstants.{LAST_JOB_ID, LAST_LOG_ID}
+use Rattle.job_values.specs.declared.job.ShownLog.{ShownLog}
 use Rattle.job_values.specs.declared.job.FiredTicket.{FiredTicket}
 use Rattle.job_values.specs.declared.job.ScheduleFault.{ScheduleFault}
 use Rattle.job_values.specs.declared.cluster.ClusterEvent.{ClusterEvent}
-use Rattle.job_values.specs.declared.cluster.ClusterEvent.TheVariants.{NodeStart, AddGroup, AddJob, StartJob, ScanBegin, ScanStep, Turn}
+use Rattle.job_values.specs.declared.cluster.ClusterEvent.TheVariants.{NodeStart, NodeStop, NodeAsk, AddGroup, SetGroup, AddJob, UpdateJob, StartJob, StopJob, RemoveJob, TriggerJob, ScanBegin, ScanStep, Turn, ReadLog, Reopen}
 use Rattle.job_values.specs.declared.cluster.ClusterRefusal.{ClusterRefusal}
-use Rattle.job_values.specs.declared.cluster.ClusterRefusal.TheVariants.{NodeRunning, NodeStopped, Busy, NotScanning, NoGroup, NoJob, BadSchedule, NoNext, TooMany, IdsSpent}
+use Rattle.job_values.specs.declared.cluster.ClusterRefusal.TheVariants.{NodeRunning, NodeStopped, Busy, NotScanning, NoGroup, NoJob, NoLog, BadSchedule, NoNext, TooMany, IdsSpent}
 use Rattle.job_values.specs.declared.cluster.ClusterReply.{ClusterReply}
 use Rattle.job_values.specs.declared.cluster.ClusterReply.TheVariants as reply
 use Rattle.cron_schedule.specs.declared.plan.Plan.{Plan}
 use Rattle.cron_schedule.specs.Parse.{parsed}
 use Rattle.job_records.specs.declared.job.Job.{Job}
 use Rattle.job_records.specs.declared.group.Group.{Group}
+use Rattle.job_records.specs.declared.log.Log.{Log}
 use Rattle.cluster_history.specs.declared.limits.TheConstants.{MOST_GROUPS, MOST_JOBS, LAST_EDITION}
 use Rattle.cluster_history.specs.declared.scan.Scan.{Scan}
 use Rattle.cluster_history.specs.declared.scan.Seat.{Seat}
 use Rattle.cluster_history.specs.declared.ticket.Ticket.{Ticket}
 use Rattle.cluster_history.specs.History.{History, accepted, settings_of}
-use Rattle.cluster_history.specs.Nodes.{runs}
+use Rattle.cluster_history.specs.Nodes.{runs, admins}
 use Rattle.cluster_history.specs.Groups.{groups_of, last_group, group_with}
 use Rattle.cluster_history.specs.Looks.{Looked, job_with}
-use Rattle.cluster_history.specs.Jobs.{jobs_of, last_job, scan_of, look_of, page_of, first_time}
-use Rattle.cluster_history.specs.Tickets.{waiting, taken, second_of}
-use Rattle.cluster_history.specs.Firings.{Shot, shots_stepped, shots_turned, shots_taken}
-use Rattle.cluster_history.specs.Logs.{last_log, queue_of, placed_from, opened_of, one_more}
+use Rattle.cluster_history.specs.Jobs.{jobs_of, last_job, scan_of, look_of, page_of, first_time, updated_time}
+use Rattle.cluster_history.specs.Tickets.{waiting, waiting_at, taken, second_of}
+use Rattle.cluster_history.specs.Firings.{Shot, shots_stepped, shots_turned, shots_taken, shots_asked}
+use Rattle.cluster_history.specs.Logs.{logs_of, last_log, queue_of, open_at, log_with, placed_from, opened_of, one_more}
 
 -- the reply that refuses
 abbrev pub refused : ClusterRefusal → ClusterReply
@@ -74,6 +76,74 @@ edition_reply edition (Some next) =
 abbrev pub running_reply : ℤ → ℕ → Option Job → ClusterReply
 running_reply offset at None = refused NoJob
 running_reply offset at (Some row) = edition_reply row.edition (first_time offset row.schedule at)
+
+-- by the edition and the next time of a job that is updated
+abbrev pub again_reply : ℕ → Bool → Option ℕ → ClusterReply
+again_reply edition true None = refused NoNext
+again_reply edition running next = if nat_lt edition LAST_EDITION then reply.Updated (edition + 1) next else refused IdsSpent
+
+-- by what the schedule's text says
+abbrev pub plan_reply : ℤ → ℕ → Job → Result Plan ScheduleFault → ClusterReply
+plan_reply offset at row (Err fault) = refused (BadSchedule fault)
+plan_reply offset at row (Ok plan) = again_reply row.edition (is_some row.next) (updated_time offset plan at row.next)
+
+-- by whether the group that the spec names is there
+abbrev pub spec_reply : Bool → ℤ → ℕ → Job → Result Plan ScheduleFault → ClusterReply
+spec_reply false offset at row said = refused NoGroup
+spec_reply true offset at row said = plan_reply offset at row said
+
+-- by the row of the job
+abbrev pub update_reply : Bool → ℤ → ℕ → Result Plan ScheduleFault → Option Job → ClusterReply
+update_reply grouped offset at said None = refused NoJob
+update_reply grouped offset at said (Some row) = spec_reply grouped offset at row said
+
+-- by the row of the job
+abbrev pub halt_reply : Option Job → ClusterReply
+halt_reply None = refused NoJob
+halt_reply (Some row) = if nat_lt row.edition LAST_EDITION then reply.Halted (row.edition + 1) else refused IdsSpent
+
+-- done where it is there
+abbrev pub done_if : Bool → ClusterRefusal → ClusterReply
+done_if true why = reply.Done
+done_if false why = refused why
+
+-- what is shown of a log
+abbrev pub shown_of : Log → ShownLog
+shown_of log = record {
+  log = log.id;
+  job = log.job;
+  group = log.group;
+  address = log.address;
+  handler = log.handler;
+  param = log.param;
+  index = log.index;
+  total = log.total;
+  retries = log.retries;
+  kind = log.kind;
+  time = log.time;
+  trigger_code = log.trigger_code;
+  result_time = log.result_time;
+  result_code = log.result_code;
+  result_text = log.result_text;
+  marked = log.marked;
+}
+
+-- by the row of the log
+abbrev pub log_reply : Option Log → ClusterReply
+log_reply None = refused NoLog
+log_reply (Some log) = reply.Shown (shown_of log)
+
+-- a count stays at the greatest value of its type
+abbrev pub counted_to : ℕ → ℕ
+counted_to count = min count (2 ^ 64 - 1)
+
+-- how many tickets the stop of an admin loses
+abbrev pub lost_by : History → ℕ → ℕ
+lost_by h admin = counted_to (waiting_at h admin)
+
+-- the sum over the admins that run
+abbrev pub over_running : History → (ℕ → ℕ) → ℕ
+over_running h count = sum (map (λ admin. if runs h admin then count admin else 0) admins)
 
 -- by the open scan
 abbrev pub begin_reply : Option Scan → List Seat → ClusterReply
@@ -125,13 +195,29 @@ fired_from groups jobs at last queued (ticket ∷ tickets) =
     fired_by ticket last queued (shots_taken groups jobs at ticket)
     ∷ fired_from groups jobs at (last + length (shots_taken groups jobs at ticket)) (queued_after queued (shots_taken groups jobs at ticket)) tickets
 
+-- by the row of the job: the logs that a firing opens
+abbrev pub fire_reply : ℕ → ℕ → List Shot → Option Job → ClusterReply
+fire_reply last queued shots None = refused NoJob
+fire_reply last queued shots (Some row) =
+    if_ids last (length shots) (reply.Opened (map opened_of (placed_from last queued shots)))
+
 -- the reply that an event has after accepted entries
 abbrev pub reply_after : History → ClusterEvent → ClusterReply
 reply_after h (NodeStart admin) = start_reply (runs h admin) admin
+reply_after h (NodeStop admin) = if_running (runs h admin) admin (reply.Stopped (lost_by h admin) (open_at h admin))
+reply_after h (NodeAsk admin) = if_running (runs h admin) admin reply.Done
 reply_after h (AddGroup app kind addresses) = group_reply (length (groups_of h)) (last_group h)
+reply_after h (SetGroup id kind addresses) = done_if (is_some (group_with id (groups_of h))) NoGroup
 reply_after h (AddJob spec) =
     job_reply (is_some (group_with spec.group (groups_of h))) (parsed spec.kind spec.schedule) (length (jobs_of h)) (last_job h)
+reply_after h (UpdateJob at job spec) =
+    update_reply (is_some (group_with spec.group (groups_of h))) (settings_of h).offset at (parsed spec.kind spec.schedule) (job_with job (jobs_of h))
 reply_after h (StartJob at job) = running_reply (settings_of h).offset at (job_with job (jobs_of h))
+reply_after h (StopJob job) = halt_reply (job_with job (jobs_of h))
+reply_after h (RemoveJob job) = done_if (is_some (job_with job (jobs_of h))) NoJob
+reply_after h (TriggerJob admin at job param) =
+    if_running (runs h admin) admin
+    (fire_reply (last_log h) (length (queue_of h admin)) (shots_asked h at job param) (job_with job (jobs_of h)))
 reply_after h (ScanBegin admin at) = if_running (runs h admin) admin (begin_reply (scan_of h) (page_of h at))
 reply_after h (ScanStep admin) =
     if_running (runs h admin) admin
@@ -140,6 +226,9 @@ reply_after h (Turn admin at) =
     if_running (runs h admin) admin
     (if_ids (last_log h) (length (shots_turned h admin at))
     (reply.Fired (fired_from (groups_of h) (jobs_of h) at (last_log h) (length (queue_of h admin)) (taken admin (second_of at) (waiting h)))))
+reply_after h (ReadLog log) = log_reply (log_with log (logs_of h))
+reply_after h Reopen =
+    reply.Reopened (counted_to (over_running h (waiting_at h))) (over_running h (open_at h))
 
 -- the reply that an event has after a history
 abbrev pub reply_of : History → ClusterEvent → ClusterReply

@@ -4,13 +4,12 @@ use Rattle.job_values.specs.declared.job.Report.{Report}
 use Rattle.job_values.specs.declared.cluster.ClusterEvent.{ClusterEvent}
 use Rattle.job_values.specs.declared.cluster.ClusterReply.{ClusterReply}
 use Rattle.job_records.specs.Rows.{IsRising}
-use Rattle.cluster_history.specs.History.{History, Begin, After, Opening, accepted}
+use Rattle.cluster_history.specs.History.{History, Begin, After, accepted}
 use Rattle.cluster_history.specs.Nodes.{admins}
-use Rattle.cluster_history.specs.Groups.{groups_of}
 use Rattle.cluster_history.specs.Jobs.{jobs_of}
-use Rattle.cluster_history.specs.Tickets.{waiting}
+use Rattle.cluster_history.specs.Tickets.{waiting_at}
 use Rattle.cluster_history.specs.Logs.{logs_of, queue_of, is_failed, is_settled}
-use Rattle.cluster_history.specs.Replies.{reply_of}
+use Rattle.cluster_history.specs.Replies.{reply_of, counted_to}
 
 -- the history with these events behind it, each with its reply
 abbrev pub run : History → List ClusterEvent → History
@@ -28,6 +27,10 @@ IsLegal (Begin o) =
     IsRising (λ job. job.id) 0 o.jobs o.last_job × IsRising (λ group. group.id) 0 o.groups o.last_group × IsRising (λ log. log.id) 0 o.logs o.last_log
 IsLegal (After h e r) = IsLegal h × (r ≡ reply_of h e)
 
+-- the tickets in all rings
+abbrev pub waiting_in : History → ℕ
+waiting_in h = sum (map (waiting_at h) admins)
+
 -- the logs in all pools
 abbrev pub queued_in : History → ℕ
 queued_in h = sum (map (λ a. length (queue_of h a)) admins)
@@ -40,7 +43,7 @@ counted h = record {
   logs = length (logs_of h);
   settled = count_by is_settled (logs_of h);
   failed = count_by is_failed (logs_of h);
-  waiting = length (waiting h);
+  waiting = counted_to (waiting_in h);
   queued = queued_in h;
   held = 0;
 }

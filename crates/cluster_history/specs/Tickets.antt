@@ -1,6 +1,6 @@
 -- The tickets that wait in the rings.
-use Rattle.std.specs.Prelude.{ℕ, ◌+◌, ◌/◌, ◌%◌, ◌==◌, List, [], ◌∷◌, ◌++◌, filter, Bool, ◌&&◌, ◌||◌, not, Option, Some, None}
-use Rattle.job_values.specs.declared.cluster.ClusterEvent.TheVariants.{ScanStep, Turn}
+use Rattle.std.specs.Prelude.{ℕ, ◌+◌, ◌/◌, ◌%◌, ◌==◌, List, [], ◌∷◌, ◌++◌, filter, count_by, Bool, ◌&&◌, ◌||◌, not, Option, Some, None}
+use Rattle.job_values.specs.declared.cluster.ClusterEvent.TheVariants.{NodeStop, ScanStep, Turn, Reopen}
 use Rattle.cluster_history.specs.declared.limits.TheConstants.{SLOTS}
 use Rattle.cluster_history.specs.declared.ticket.Ticket.{Ticket}
 use Rattle.cluster_history.specs.History.{History, Begin, After}
@@ -51,9 +51,19 @@ abbrev pub put_behind : ℕ → Option Looked → List Ticket → List Ticket
 put_behind admin None before = before
 put_behind admin (Some look) before = put_due admin look.row.id look.row.edition look.decision.put before
 
--- the tickets that no turn took, in the order of the steps that put them
+-- whether a ticket is in the ring of an admin
+abbrev pub is_at : ℕ → Ticket → Bool
+is_at admin ticket = ticket.admin == admin
+
+-- the tickets that no turn took and no stop lost, in the order of the steps that put them
 abbrev pub waiting : History → List Ticket
 waiting (Begin o) = []
 waiting (After h (ScanStep admin) r) = put_behind admin (look_of h) (waiting h)
 waiting (After h (Turn admin at) r) = left admin (second_of at) (waiting h)
+waiting (After h (NodeStop admin) r) = filter (λ ticket. not (is_at admin ticket)) (waiting h)
+waiting (After h Reopen r) = []
 waiting (After h _ r) = waiting h
+
+-- how many tickets wait in the ring of an admin
+abbrev pub waiting_at : History → ℕ → ℕ
+waiting_at h admin = count_by (is_at admin) (waiting h)

@@ -2,14 +2,21 @@
 //! ids, and how a row is found by its id.
 #![tactic(auto)]
 
+pub mod change;
 pub mod group;
 pub mod job;
+pub mod last_ids;
+pub mod limits;
 pub mod log;
+pub mod records;
 pub mod registry;
 pub mod row;
 
+pub use change::Change;
 pub use group::Group;
 pub use job::Job;
+pub use last_ids::LastIds;
 pub use log::Log;
+pub use records::Records;
 pub use registry::RegistryRow;
 pub use row::{Row, place_of};

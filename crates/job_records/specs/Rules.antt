@@ -1,0 +1,71 @@
+-- The rules that the tables always keep.
+use Rattle.std.specs.Prelude.{◌≡◌, ℕ, ◌<◌, ◌≤◌, List, length, count_by, All, bytes_eq, IsSome, is_some, Ok}
+use Rattle.job_values.specs.declared.numbers.TheConstants.{LAST_JOB_ID, LAST_LOG_ID}
+use Rattle.cron_schedule.specs.Parse.{parsed}
+use Rattle.job_records.specs.declared.limits.TheConstants.{MOST_GROUPS, MOST_JOBS, MOST_REGISTRATIONS, MOST_OF_KEY, SUCCESS}
+use Rattle.job_records.specs.declared.group.Group.{Group}
+use Rattle.job_records.specs.declared.job.Job.{Job}
+use Rattle.job_records.specs.declared.log.Log.{Log}
+use Rattle.job_records.specs.declared.registry.RegistryRow.{RegistryRow}
+use Rattle.job_records.specs.Order.{RisesByKey}
+use Rattle.job_records.specs.Rows.{row_with, IsRising}
+use Rattle.job_records.specs.Tables.{Tables}
+
+-- a job runs exactly where it has a next time
+abbrev pub RunsByNext : Job → Type 0
+RunsByNext job = job.running ≡ is_some job.next
+
+-- a job's schedule is what its spec's kind and text say
+abbrev pub HasItsSchedule : Job → Type 0
+HasItsSchedule job = parsed job.spec.kind job.spec.schedule ≡ Ok job.schedule
+
+-- a job's group is one of these
+abbrev pub HasGroup : List Group → Job → Type 0
+HasGroup groups job = IsSome (row_with (λ group. group.id) job.spec.group groups)
+
+-- a log that was sent has an address
+abbrev pub HasAddress : Log → Type 0
+HasAddress log = log.trigger_code ≡ SUCCESS → IsSome log.address
+
+-- the key and the value of a registration are not empty
+abbrev pub IsNamed : RegistryRow → Type 0
+IsNamed row = (0 < length row.key) × (0 < length row.value)
+
+-- how many registrations have this key
+abbrev pub count_of_key : List ℕ → List RegistryRow → ℕ
+count_of_key key rows = count_by (λ row. bytes_eq row.key key) rows
+
+-- the groups: their ids rise up to the last id that was given, and they are not too many
+pub record GroupRules (groups : List Group) (last : ℕ) : Type 0 where
+  pub rising : IsRising (λ group. group.id) 0 groups last
+  pub last_id : last ≤ LAST_JOB_ID
+  pub few : length groups ≤ MOST_GROUPS
+
+-- the jobs: their ids rise up to the last id that was given, each is as it must be, and they are not too many
+pub record JobRules (groups : List Group) (jobs : List Job) (last : ℕ) : Type 0 where
+  pub rising : IsRising (λ job. job.id) 0 jobs last
+  pub last_id : last ≤ LAST_JOB_ID
+  pub running : All RunsByNext jobs
+  pub schedules : All HasItsSchedule jobs
+  pub groups_exist : All (HasGroup groups) jobs
+  pub few : length jobs ≤ MOST_JOBS
+
+-- the logs: their ids rise up to the last id that was given, and a log that was sent has an address
+pub record LogRules (logs : List Log) (last : ℕ) : Type 0 where
+  pub rising : IsRising (λ log. log.id) 0 logs last
+  pub last_id : last ≤ LAST_LOG_ID
+  pub addresses : All HasAddress logs
+
+-- the registrations: they rise by key and value, none is empty, and they are not too many, in all and of one key
+pub record RegistryRules (registry : List RegistryRow) : Type 0 where
+  pub rising : RisesByKey registry
+  pub named : All IsNamed registry
+  pub few : length registry ≤ MOST_REGISTRATIONS
+  pub few_of_key : (key : List ℕ) → count_of_key key registry ≤ MOST_OF_KEY
+
+-- the tables keep the rules of each list
+pub record KeepsRules (t : Tables) : Type 0 where
+  pub groups : GroupRules t.groups t.last.group
+  pub jobs : JobRules t.groups t.jobs t.last.job
+  pub logs : LogRules t.logs t.last.log
+  pub registry : RegistryRules t.registry

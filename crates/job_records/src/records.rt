@@ -1,0 +1,126 @@
+//! The records: the rows that the admins share, found by their ids and changed by lists of changes.
+ghost use Rattle.std.specs.Prelude.{◌≡◌, ◌↔◌, IsTrue, OnOk};
+ghost use Rattle.std.specs.Option.{option_copied};
+ghost use Rattle.job_records.specs.Rows.{row_with};
+ghost use Rattle.job_records.specs.Tables.{no_rows};
+ghost use Rattle.job_records.specs.Rules.{KeepsRules};
+ghost use Rattle.job_records.specs.Changes.{applied, applied_all, AreAllowed};
+ghost use Rattle.job_records.specs.Room.{HasRoom, HasNoLessRoom};
+
+use super::group::Group;
+use super::job::Job;
+use super::last_ids::LastIds;
+use super::log::Log;
+use super::registry::RegistryRow;
+use super::row::place_of;
+use job_values::{GroupId, JobId, LogId};
+use std::alloc::Global;
+use std::marker::Model;
+
+/// The rows that the admins share, and the last ids that were given.
+#[derive(Drop)]
+pub struct Records {
+    groups: Vec<Group>,
+    jobs: Vec<Job>,
+    logs: Vec<Log>,
+    registry: Vec<RegistryRow>,
+    last: LastIds,
+}
+
+impl Model for Records {
+    ghost use Rattle.std.specs.Prelude.{◌-◌, vec_len, vec_capacity};
+    ghost use Rattle.job_records.specs.Room.{RecordsState};
+    ghost use Rattle.job_records.specs.Rules.{KeepsRules};
+
+    ghost Value = { RecordsState };
+
+    ghost view = { λ r. record {
+      kept = record { groups = r.groups.items; jobs = r.jobs.items; logs = r.logs.items; registry = r.registry.items; last = r.last };
+      room = record {
+        groups = vec_capacity r.groups - vec_len r.groups;
+        jobs = vec_capacity r.jobs - vec_len r.jobs;
+        logs = vec_capacity r.logs - vec_len r.logs;
+        registry = vec_capacity r.registry - vec_len r.registry;
+      };
+    } };
+
+    ghost invariant = { λ r. KeepsRules (record { groups = r.groups.items; jobs = r.jobs.items; logs = r.logs.items; registry = r.registry.items; last = r.last }) };
+}
+
+impl Records {
+    /// The records without rows, in which no id was given.
+    pub fn new(alloc: Global) -> Records
+        ensures { result.kept ≡ no_rows }
+    {
+        Records {
+            groups: Vec::new(alloc),
+            jobs: Vec::new(alloc),
+            logs: Vec::new(alloc),
+            registry: Vec::new(alloc),
+            last: LastIds {
+                group: 0,
+                job: 0,
+                log: 0,
+            },
+        }
+    }
+
+    /// The group with this id; None exactly where there is none.
+    pub fn group(&self, id: GroupId) -> Option<&Group>
+        ensures { option_copied result ≡ row_with (λ group. group.id) id self.now.kept.groups }
+    {
+        let place = place_of(self.groups.as_slice(), id.get() as u64)?;
+        self.groups.get(place)
+    }
+
+    /// The job with this id; None exactly where there is none.
+    pub fn job(&self, id: JobId) -> Option<&Job>
+        ensures { option_copied result ≡ row_with (λ job. job.id) id self.now.kept.jobs }
+    {
+        let place = place_of(self.jobs.as_slice(), id.get() as u64)?;
+        self.jobs.get(place)
+    }
+
+    /// The log with this id; None exactly where there is none.
+    pub fn log(&self, id: LogId) -> Option<&Log>
+        ensures { option_copied result ≡ row_with (λ log. log.id) id self.now.kept.logs }
+    {
+        let place = place_of(self.logs.as_slice(), id.get())?;
+        self.logs.get(place)
+    }
+
+    /// The groups, in order of their ids.
+    pub fn groups(&self) -> &[Group]
+        ensures { result.now ≡ self.now.kept.groups }
+    {
+        self.groups.as_slice()
+    }
+
+    /// The jobs, in order of their ids.
+    pub fn jobs(&self) -> &[Job]
+        ensures { result.now ≡ self.now.kept.jobs }
+    {
+        self.jobs.as_slice()
+    }
+
+    /// The logs, in order of their ids.
+    pub fn logs(&self) -> &[Log]
+        ensures { result.now ≡ self.now.kept.logs }
+    {
+        self.logs.as_slice()
+    }
+
+    /// The registrations, in order of their keys and values.
+    pub fn registry(&self) -> &[RegistryRow]
+        ensures { result.now ≡ self.now.kept.registry }
+    {
+        self.registry.as_slice()
+    }
+
+    /// The last ids that were given.
+    pub fn last_ids(&self) -> LastIds
+        ensures { result ≡ self.now.kept.last }
+    {
+        self.last
+    }
+}

@@ -1,7 +1,5 @@
 pub mod Kept
-pub mod Changes
-pub mod Starts
+pub mod Commits
 pub mod Stands
+pub mod Plans
 pub mod Steps
-pub mod Firing
-pub mod Turning

@@ -1,81 +1,139 @@
-//! The cluster: what it keeps, and the one call that changes it.
+//! The cluster: what it keeps, and the calls that change it.
 ghost use Rattle.std.specs.Prelude.{◌≡◌, IfOk, OnErr};
 
+use super::pools::no_pools;
+use super::prepared::Prepared;
+use super::rings::empty_rings;
 use cluster_history::limits::ADMINS;
-use cluster_history::{Scan, Settings, Ticket};
-use job_records::{Group, Job, Log};
+use cluster_history::{Scan, Settings};
+use job_records::Records;
 use job_values::{AdminNo, ClusterEvent, ClusterReply, NoMemory};
 use std::alloc::Global;
 use std::marker::Model;
+use time_ring::TimeRing;
+use trigger_pool::Pools;
 
-/// The admins and what they share. Contracts see the lists that it keeps.
+/// The admins and what they share. Contracts see the rows, and per admin whether it runs, its ring
+/// and its pools.
 #[derive(Drop)]
 pub struct Cluster {
     pub(crate) alloc: Global,
     pub(crate) settings: Settings,
     pub(crate) running: Vec<bool>,
-    pub(crate) queued: Vec<u64>,
-    pub(crate) groups: Vec<Group>,
-    pub(crate) jobs: Vec<Job>,
-    pub(crate) logs: Vec<Log>,
+    pub(crate) records: Records,
     pub(crate) scan: Option<Scan>,
-    pub(crate) tickets: Vec<Ticket>,
-    pub(crate) last_group: u32,
-    pub(crate) last_job: u32,
-    pub(crate) last_log: u64,
+    pub(crate) rings: Vec<TimeRing>,
+    pub(crate) pools: Vec<Pools>,
 }
 
 impl Model for Cluster {
-    ghost use Rattle.cluster_core.specs.Kept.{Kept, IsSound};
+    ghost use Rattle.cluster_core.specs.Kept.{ClusterState, kept_of, IsSound};
 
-    ghost Value = { Kept };
+    ghost Value = { ClusterState };
 
-    ghost view = { λ c. record { settings = c.settings; running = c.running.items; queued = c.queued.items; groups = c.groups.items; jobs = c.jobs.items; logs = c.logs.items; scan = c.scan; tickets = c.tickets.items; last_group = c.last_group; last_job = c.last_job; last_log = c.last_log } };
+    ghost view = { λ c. record { settings = c.settings; running = c.running.items; records = c.records; scan = c.scan; rings = c.rings.items; pools = c.pools.items } };
 
-    ghost invariant = { λ c. IsSound (record { settings = c.settings; running = c.running.items; queued = c.queued.items; groups = c.groups.items; jobs = c.jobs.items; logs = c.logs.items; scan = c.scan; tickets = c.tickets.items; last_group = c.last_group; last_job = c.last_job; last_log = c.last_log }) };
+    ghost invariant = { λ c. IsSound (kept_of (record { settings = c.settings; running = c.running.items; records = c.records; scan = c.scan; rings = c.rings.items; pools = c.pools.items })) };
 }
 
 impl Cluster {
     ghost use Rattle.cluster_history.specs.History.{History, Begin, accepted, empty_opening};
     ghost use Rattle.cluster_history.specs.Nodes.{runs};
-    ghost use Rattle.cluster_core.specs.Stands.{StandsFor, Answers, owner_after};
+    ghost use Rattle.cluster_core.specs.Kept.{kept_of};
+    ghost use Rattle.cluster_core.specs.Commits.{committed, CanCommit};
+    ghost use Rattle.cluster_core.specs.Plans.{IsPlanned, IsPrepared};
+    ghost use Rattle.cluster_core.specs.Stands.{StandsFor, Answers, owner_after, records_of, ring_of};
 
     /// A cluster without rows, in which no admin runs.
     pub fn new(alloc: Global, settings: Settings) -> Result<Cluster, NoMemory>
         ensures { IfOk result (λ cluster. StandsFor cluster (Begin (empty_opening settings))) }
     {
         let running = vec![in alloc; false; ADMINS].map_err(|_| NoMemory)?;
-        let queued = vec![in alloc; 0u64; ADMINS].map_err(|_| NoMemory)?;
+        let rings = empty_rings(alloc)?;
+        let pools = no_pools(alloc)?;
         Ok(Cluster {
             alloc,
             settings,
             running,
-            queued,
-            groups: Vec::new(alloc),
-            jobs: Vec::new(alloc),
-            logs: Vec::new(alloc),
+            records: Records::new(alloc),
             scan: None,
-            tickets: Vec::new(alloc),
-            last_group: 0,
-            last_job: 0,
-            last_log: 0,
+            rings,
+            pools,
         })
+    }
+
+    /// What an event will answer and change.
+    fn plan(&self, event: &ClusterEvent) -> Result<Prepared, NoMemory>
+        ensures { IfOk result (IsPlanned (kept_of self.now) event.now) }
+    {
+        match event {
+            ClusterEvent::NodeStart(admin) => Ok(self.plan_start(*admin)),
+            ClusterEvent::NodeStop(admin) => self.plan_stop(*admin),
+            ClusterEvent::NodeAsk(admin) => Ok(self.plan_ask(*admin)),
+            ClusterEvent::AddGroup(app, kind, addresses) => {
+                self.plan_add_group(app, *kind, addresses)
+            }
+            ClusterEvent::SetGroup(group, kind, addresses) => {
+                self.plan_set_group(*group, *kind, addresses)
+            }
+            ClusterEvent::AddJob(spec) => self.plan_add_job(spec),
+            ClusterEvent::UpdateJob(at, job, spec) => self.plan_update_job(*at, *job, spec),
+            ClusterEvent::StartJob(at, job) => self.plan_start_job(*at, *job),
+            ClusterEvent::StopJob(job) => self.plan_stop_job(*job),
+            ClusterEvent::RemoveJob(job) => self.plan_remove_job(*job),
+            ClusterEvent::TriggerJob(admin, at, job, param) => {
+                self.plan_fire(*admin, *at, *job, param)
+            }
+            ClusterEvent::ScanBegin(admin, at) => self.plan_scan(*admin, *at),
+            ClusterEvent::ScanStep(admin) => self.plan_step(*admin),
+            ClusterEvent::Turn(admin, at) => self.plan_turn(*admin, *at),
+            ClusterEvent::ReadLog(log) => self.plan_read_log(*log),
+            ClusterEvent::Reopen => self.plan_reopen(),
+        }
+    }
+
+    /// Decides an event, and takes all memory that it needs. It changes nothing that is kept,
+    /// whatever it answers.
+    pub fn prepare(&mut self, event: &ClusterEvent) -> Result<Prepared, NoMemory>
+        ensures prepared { IfOk result (IsPrepared self.new event.now) }
+        ensures same { kept_of self.new ≡ kept_of self.old }
+    {
+        let prepared = self.plan(event)?;
+        self.make_room(&prepared)?;
+        Ok(prepared)
+    }
+
+    /// Does what was prepared on this state last, and replies. It takes no memory.
+    pub fn commit(&mut self, prepared: Prepared) -> ClusterReply
+        requires { CanCommit self.old prepared }
+        ensures reply { result ≡ prepared.reply }
+        ensures kept { kept_of self.new ≡ committed (kept_of self.old) prepared }
+        ensures answers { (event : ClusterEvent) → IsPrepared self.old event prepared → Answers self.old event result self.new }
+    {
+        let Prepared {
+            reply,
+            changes,
+            node,
+        } = prepared;
+        self.change_node(node);
+        let _ = changes; // self.records.apply(changes) once job_records has it
+        reply
     }
 
     /// Acts an event and replies to it. A refused event changes nothing.
     pub fn step(&mut self, event: &ClusterEvent) -> Result<ClusterReply, NoMemory>
         ensures answers { IfOk result (λ reply. Answers self.old event.now reply self.new) }
-        ensures err { OnErr result (self.new ≡ self.old) }
+        ensures err { OnErr result (kept_of self.new ≡ kept_of self.old) }
     {
-        match event {
-            ClusterEvent::NodeStart(admin) => Ok(self.node_start(*admin)),
-            ClusterEvent::AddGroup(app, kind, addresses) => self.add_group(app, *kind, addresses),
-            ClusterEvent::AddJob(spec) => self.add_job(spec),
-            ClusterEvent::StartJob(at, job) => Ok(self.start_job(*at, *job)),
-            ClusterEvent::ScanBegin(admin, at) => self.scan_begin(*admin, *at),
-            ClusterEvent::ScanStep(admin) => self.scan_step(*admin),
-            ClusterEvent::Turn(admin, at) => self.turn(*admin, *at),
-        }
+        let prepared = self.prepare(event)?;
+        Ok(self.commit(prepared))
+    }
+
+    /// The groups, jobs, logs and registrations, and the last ids.
+    pub fn records(&self) -> &Records
+        ensures { (h : History) → StandsFor self.now h → result.now.kept ≡ records_of (accepted h) }
+    {
+        &self.records
     }
 
     /// The admin that owns the open scan.
@@ -93,5 +151,12 @@ impl Cluster {
         ensures { (h : History) → StandsFor self.now h → result ≡ runs (accepted h) admin }
     {
         self.running[admin.get() as usize]
+    }
+
+    /// The tickets that wait in the ring of an admin, in sixty slots.
+    pub fn ring(&self, admin: AdminNo) -> &TimeRing
+        ensures { (h : History) → StandsFor self.now h → result.now.slots ≡ ring_of (accepted h) admin }
+    {
+        &self.rings[admin.get() as usize]
     }
 }

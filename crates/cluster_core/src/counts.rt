@@ -1,5 +1,7 @@
 //! What is counted.
-ghost use Rattle.std.specs.Prelude.{◌≡◌, ◌<◌, ◌^◌, sum, count_by};
+ghost use Rattle.std.specs.Prelude.{◌≡◌, ◌≤◌, ◌-◌, ◌^◌, All, length, map, min, sum, count_by};
+ghost use Rattle.time_ring.specs.Ring.{ticket_count};
+ghost use Rattle.cluster_history.specs.declared.limits.TheConstants.{ADMINS, MOST_FAST};
 ghost use Rattle.cluster_history.specs.History.{History};
 ghost use Rattle.cluster_history.specs.Logs.{is_failed, is_settled};
 ghost use Rattle.cluster_history.specs.Runs.{report_of};
@@ -8,7 +10,9 @@ ghost use Rattle.cluster_core.specs.Stands.{StandsFor};
 use super::cluster::Cluster;
 use cluster_history::limits::SUCCESS;
 use job_records::Log;
-use job_values::Report;
+use job_values::{PoolKind, Report};
+use time_ring::TimeRing;
+use trigger_pool::Pools;
 
 /// Whether a log is neither under way nor settled with success.
 pub fn failed(log: &Log) -> bool
@@ -39,24 +43,44 @@ fn count_failed(logs: &[Log]) -> u64
     logs.iter().filter(|log| failed(log)).count() as u64
 }
 
+/// How many tickets wait in all rings.
+fn count_waiting(rings: &Vec<TimeRing>) -> u64
+    ensures { result ≡ min (sum (map (λ ring. ticket_count ring.slots) rings.now.items)) (2 ^ 64 - 1) }
+{
+    let mut waiting: u64 = 0;
+    for ring in rings {
+        waiting = waiting.saturating_add(ring.count());
+    }
+    waiting
+}
+
+/// How many logs are in all pools.
+fn count_queued(pools: &Vec<Pools>) -> u64
+    requires { All (λ pool. length pool.kept.fast ≤ MOST_FAST) pools.now.items × (length pools.now.items ≡ ADMINS) }
+    ensures { result ≡ sum (map (λ pool. length pool.kept.fast) pools.now.items) }
+{
+    let mut queued = 0;
+    for pool in pools {
+        queued += pool.length(PoolKind::Fast) as u64;
+    }
+    queued
+}
+
 impl Cluster {
     /// The numbers of jobs, logs, settled and failed logs, waiting tickets and queued logs. It leaves
     /// the counts of lines and of held ids at 0.
     pub fn counts(&self) -> Report
         ensures { (h : History) → StandsFor self.now h → result ≡ report_of h }
     {
-        let mut queued = 0;
-        for count in &self.queued {
-            queued += *count;
-        }
+        let logs = self.records.logs();
         Report {
             entries: 0,
-            jobs: self.jobs.len() as u64,
-            logs: self.logs.len() as u64,
-            settled: count_settled(self.logs.as_slice()),
-            failed: count_failed(self.logs.as_slice()),
-            waiting: self.tickets.len() as u64,
-            queued,
+            jobs: self.records.jobs().len() as u64,
+            logs: logs.len() as u64,
+            settled: count_settled(logs),
+            failed: count_failed(logs),
+            waiting: count_waiting(&self.rings),
+            queued: count_queued(&self.pools),
             held: 0,
         }
     }

@@ -1,20 +1,25 @@
 //! The cluster of admins: one event changes it, and its reply is the one that the history of the
-//! cluster defines.
+//! cluster defines. An event is prepared, which takes all memory that it needs, and then committed.
 #![tactic(auto)]
 
 pub mod cluster;
+mod commit;
 mod counts;
+mod edits;
+mod fires;
 mod groups;
 mod ids;
 mod jobs;
-mod looks;
 mod nodes;
-mod opening;
 mod pages;
+mod pools;
+pub mod prepared;
+mod rings;
+mod room;
 mod scans;
+mod shown;
 mod turns;
 
 pub use cluster::Cluster;
+pub use prepared::{Entering, NodeChange, Prepared};
 
-#[cfg(test)]
-mod tests;

@@ -1,21 +1,39 @@
-//! The start of an admin.
-ghost use Rattle.job_values.specs.declared.cluster.ClusterEvent.TheVariants.{NodeStart};
-ghost use Rattle.cluster_core.specs.Stands.{Answers};
+//! The start and the stop of admins.
+ghost use Rattle.std.specs.Prelude.{IfOk};
+ghost use Rattle.job_values.specs.declared.cluster.ClusterEvent.TheVariants.{NodeStart, NodeStop, NodeAsk, Reopen};
+ghost use Rattle.cluster_core.specs.Kept.{kept_of};
+ghost use Rattle.cluster_core.specs.Plans.{IsPlanned};
 
 use super::cluster::Cluster;
-use job_values::{AdminNo, ClusterRefusal, ClusterReply};
+use super::prepared::Prepared;
+use job_values::{AdminNo, ClusterReply, NoMemory};
 
 impl Cluster {
-    /// The admin starts, with an empty pool.
-    pub(crate) fn node_start(&mut self, admin: AdminNo) -> ClusterReply
-        ensures { Answers self.old (NodeStart admin) result self.new }
+    /// An admin starts.
+    pub(crate) fn plan_start(&self, admin: AdminNo) -> Prepared
+        ensures { IsPlanned (kept_of self.now) (NodeStart admin) result }
     {
-        let place = admin.get() as usize;
-        if self.running[place] {
-            return ClusterReply::Refused(ClusterRefusal::NodeRunning(admin));
-        }
-        self.running[place] = true;
-        self.queued[place] = 0;
-        ClusterReply::Done
+        Prepared::answer(self.alloc, ClusterReply::Done)
+    }
+
+    /// An admin stops: its logs that were not sent end, and its ring and its scan are lost.
+    pub(crate) fn plan_stop(&self, admin: AdminNo) -> Result<Prepared, NoMemory>
+        ensures { IfOk result (IsPlanned (kept_of self.now) (NodeStop admin)) }
+    {
+        Err(NoMemory)
+    }
+
+    /// Whether an admin runs.
+    pub(crate) fn plan_ask(&self, admin: AdminNo) -> Prepared
+        ensures { IsPlanned (kept_of self.now) (NodeAsk admin) result }
+    {
+        Prepared::answer(self.alloc, ClusterReply::Done)
+    }
+
+    /// Every admin stops.
+    pub(crate) fn plan_reopen(&self) -> Result<Prepared, NoMemory>
+        ensures { IfOk result (IsPlanned (kept_of self.now) Reopen) }
+    {
+        Err(NoMemory)
     }
 }

@@ -1,0 +1,74 @@
+-- What a prepared event makes of what is kept.
+use Rattle.std.specs.Prelude.{ℕ, ◌<◌, ◌≤◌, List, [], ◌∷◌, map, length, slice_index_or, slice_set, true, false, Option, Some, None}
+use Rattle.job_records.specs.Changes.{applied_all, AreAllowed}
+use Rattle.job_records.specs.Room.{HasRoom}
+use Rattle.time_ring.specs.declared.ticket.Ticket.{Ticket}
+use Rattle.time_ring.specs.Ring.{Ring, slot_of, room_in, with_ticket, after_turn, no_tickets}
+use Rattle.trigger_pool.specs.Pool.{PoolState, Room, Queues, no_logs, with_log, answer_at}
+use Rattle.trigger_pool.specs.Reports.{late_count}
+use Rattle.cluster_history.specs.Pages.{unless_owner, stepped}
+use Rattle.cluster_core.specs.declared.prepared.Entering.{Entering}
+use Rattle.cluster_core.specs.declared.prepared.NodeChange.{NodeChange}
+use Rattle.cluster_core.specs.declared.prepared.NodeChange.TheVariants as node
+use Rattle.cluster_core.specs.declared.prepared.Prepared.{Prepared}
+use Rattle.cluster_core.specs.Kept.{Kept, ClusterState, ring_at, pools_at}
+
+-- the pools of an admin with a log more
+abbrev pub pools_with : Queues → Entering → Queues
+pools_with pools entering =
+    with_log pools entering.log (answer_at (late_count pools.counts entering.job) pools.fast pools.slow)
+
+-- the pools of an admin after these logs
+abbrev pub entered : Queues → List Entering → Queues
+entered pools [] = pools
+entered pools (entering ∷ others) = entered (pools_with pools entering) others
+
+-- the pools of all admins after these logs entered those of one
+abbrev pub pools_after : ℕ → List Entering → List Queues → List Queues
+pools_after admin logs pools = slice_set pools admin (entered (pools_at pools admin) logs)
+
+-- the rings of all admins with a ticket more in that of one, if there is a ticket
+abbrev pub rings_with : ℕ → Option Ticket → List (List (List Ticket)) → List (List (List Ticket))
+rings_with admin None rings = rings
+rings_with admin (Some ticket) rings = slice_set rings admin (with_ticket (ring_at rings admin) ticket)
+
+-- what an event changes beside the rows
+abbrev pub node_changed : NodeChange → Kept → Kept
+node_changed node.Nothing kept = kept
+node_changed (node.Starts admin) kept = record kept { running = slice_set kept.running admin true }
+node_changed (node.Stops admin) kept = record kept { running = slice_set kept.running admin false; scan = unless_owner admin kept.scan; rings = slice_set kept.rings admin no_tickets; pools = slice_set kept.pools admin no_logs }
+node_changed node.StopsAll kept = record kept { running = map (λ running. false) kept.running; scan = None; rings = map (λ ring. no_tickets) kept.rings; pools = map (λ pools. no_logs) kept.pools }
+node_changed (node.Begins scan) kept = record kept { scan = Some scan }
+node_changed (node.Steps admin put logs) kept = record kept { scan = stepped kept.scan; rings = rings_with admin put kept.rings; pools = pools_after admin logs kept.pools }
+node_changed (node.Turns admin second logs) kept = record kept { rings = slice_set kept.rings admin (after_turn (ring_at kept.rings admin) second); pools = pools_after admin logs kept.pools }
+node_changed (node.Fires admin logs) kept = record kept { pools = pools_after admin logs kept.pools }
+
+-- what is kept after a prepared event
+abbrev pub committed : Kept → Prepared → Kept
+committed kept prepared = record (node_changed prepared.node kept) { tables = applied_all kept.tables prepared.changes }
+
+-- the room in the ring of an admin
+abbrev pub ring_room : List Ring → ℕ → List ℕ
+ring_room rings admin = slice_index_or (map (λ ring. ring.room) rings) admin []
+
+-- for how many more logs the pools of an admin have room
+abbrev pub pool_room : List PoolState → ℕ → ℕ
+pool_room pools admin = slice_index_or (map (λ pool. pool.room.logs) pools) admin 0
+
+-- there is room for a ticket, if there is one
+abbrev pub HasRoomToPut : List ℕ → Option Ticket → Type 0
+HasRoomToPut room None = Unit {0}
+HasRoomToPut room (Some ticket) = 0 < room_in room (slot_of ticket.due)
+
+-- there is room for what an event changes beside the rows
+abbrev pub HasRoomFor : ClusterState → NodeChange → Type 0
+HasRoomFor state (node.Steps admin put logs) = HasRoomToPut (ring_room state.rings admin) put × (length logs ≤ pool_room state.pools admin)
+HasRoomFor state (node.Turns admin second logs) = length logs ≤ pool_room state.pools admin
+HasRoomFor state (node.Fires admin logs) = length logs ≤ pool_room state.pools admin
+HasRoomFor state _ = Unit {0}
+
+-- a prepared event can be committed: each change of the rows is allowed after those before it, and there is room for everything
+pub record CanCommit (state : ClusterState) (prepared : Prepared) : Type 0 where
+  pub allowed : AreAllowed state.records.kept prepared.changes
+  pub rows : HasRoom state.records.room prepared.changes
+  pub node : HasRoomFor state prepared.node

@@ -1,0 +1,119 @@
+//! What a prepared event changes beside the rows.
+ghost use Rattle.std.specs.Prelude.{◌≡◌, ◌≤◌, length, map, false};
+ghost use Rattle.time_ring.specs.Ring.{no_tickets};
+ghost use Rattle.trigger_pool.specs.Pool.{no_logs};
+ghost use Rattle.cluster_history.specs.Pages.{unless_owner};
+ghost use Rattle.cluster_core.specs.declared.prepared.NodeChange.TheVariants as node;
+ghost use Rattle.cluster_core.specs.Kept.{kept_of};
+ghost use Rattle.cluster_core.specs.Commits.{node_changed, entered, HasRoomFor};
+
+use super::cluster::Cluster;
+use super::pages::step_on;
+use super::prepared::{Entering, NodeChange};
+use cluster_history::Scan;
+use job_values::{AdminNo, Seq};
+use std::alloc::Global;
+use time_ring::TimeRing;
+use trigger_pool::Pools;
+
+/// Puts logs into the pools of an admin.
+fn enter(pools: &mut Pools, logs: &Seq<Entering>)
+    requires { length logs.now ≤ pools.old.room.logs }
+    ensures { pools.new.kept ≡ entered pools.old.kept logs.now }
+{
+    for log in logs.as_slice() {
+        pools.add(log.log, log.job);
+    }
+}
+
+/// A stop of its owner ends the scan.
+fn close_of(scan: &mut Option<Scan>, admin: AdminNo)
+    ensures { scan.new ≡ unless_owner admin scan.old }
+{
+    if let Some(open) = scan {
+        if open.owner == admin {
+            *scan = None;
+        }
+    }
+}
+
+/// No admin runs.
+fn stop_running(running: &mut Vec<bool>)
+    ensures { running.new.items ≡ map (λ running. false) running.old.items }
+{
+    for one in running {
+        *one = false;
+    }
+}
+
+/// Drops the tickets of all rings.
+fn clear_rings(rings: &mut Vec<TimeRing>)
+    ensures { map (λ ring. ring.slots) rings.new.items ≡ map (λ ring. no_tickets) (map (λ ring. ring.slots) rings.old.items) }
+{
+    for ring in rings {
+        ring.clear();
+    }
+}
+
+/// Drops the logs of all pools.
+fn empty_pools(alloc: Global, pools: &mut Vec<Pools>)
+    ensures { map (λ pool. pool.kept) pools.new.items ≡ map (λ pools. no_logs) (map (λ pool. pool.kept) pools.old.items) }
+{
+    for one in pools {
+        *one = Pools::new(alloc);
+    }
+}
+
+impl Cluster {
+    /// An admin stops: its scan, its tickets and its queues are gone.
+    fn stop_at(&mut self, admin: AdminNo)
+        ensures kept { kept_of self.new ≡ node_changed (node.Stops admin) (kept_of self.old) }
+        ensures records { self.new.records ≡ self.old.records }
+    {
+        let place = admin.get() as usize;
+        self.running[place] = false;
+        close_of(&mut self.scan, admin);
+        self.rings[place].clear();
+        self.pools[place] = Pools::new(self.alloc);
+    }
+
+    /// Every admin stops.
+    fn stop_all(&mut self)
+        ensures kept { kept_of self.new ≡ node_changed node.StopsAll (kept_of self.old) }
+        ensures records { self.new.records ≡ self.old.records }
+    {
+        self.scan = None;
+        stop_running(&mut self.running);
+        clear_rings(&mut self.rings);
+        empty_pools(self.alloc, &mut self.pools);
+    }
+
+    /// Changes admins, scan, rings and pools.
+    pub(crate) fn change_node(&mut self, node: NodeChange)
+        requires { HasRoomFor self.old node }
+        ensures kept { kept_of self.new ≡ node_changed node (kept_of self.old) }
+        ensures records { self.new.records ≡ self.old.records }
+    {
+        match node {
+            NodeChange::Nothing => {}
+            NodeChange::Starts(admin) => self.running[admin.get() as usize] = true,
+            NodeChange::Stops(admin) => self.stop_at(admin),
+            NodeChange::StopsAll => self.stop_all(),
+            NodeChange::Begins(scan) => self.scan = Some(scan),
+            NodeChange::Steps(admin, put, logs) => {
+                let place = admin.get() as usize;
+                step_on(&mut self.scan);
+                if let Some(ticket) = put {
+                    self.rings[place].put(ticket);
+                }
+                enter(&mut self.pools[place], &logs);
+            }
+            NodeChange::Turns(admin, second, logs) => {
+                let place = admin.get() as usize;
+                self.rings[place].take(second);
+                enter(&mut self.pools[place], &logs);
+            }
+            NodeChange::Fires(admin, logs) => enter(&mut self.pools[admin.get() as usize], &logs),
+        }
+    }
+}

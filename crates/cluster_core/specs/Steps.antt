@@ -5,10 +5,9 @@ use Rattle.cluster_history.specs.declared.scan.Scan.{Scan}
 use Rattle.cluster_history.specs.declared.scan.Seat.{Seat}
 use Rattle.job_values.specs.declared.cluster.ClusterRefusal.TheVariants.{NotScanning}
 use Rattle.cluster_history.specs.Firings.{Shot}
-use Rattle.cluster_history.specs.Looks.{Looked, look_seat}
+use Rattle.cluster_history.specs.Looks.{Looked}
 use Rattle.cluster_history.specs.Replies.{step_reply, refused}
 use Rattle.cluster_core.specs.declared.pages.Sitting.{Sitting}
-use Rattle.cluster_core.specs.declared.looks.Look.{Look}
 
 -- the admin owns the open scan, whose next seat and moment these are
 pub record SitsAt (current : Option Scan) (admin : ℕ) (sitting : Sitting) : Type 0 where
@@ -21,9 +20,3 @@ pub record SitsAt (current : Option Scan) (admin : ℕ) (sitting : Sitting) : Ty
 -- a step of the admin is refused
 abbrev pub IsNotScanning : Option Scan → ℕ → Type 0
 IsNotScanning current admin = (last queued : ℕ) (shots : List Shot) (look : Option Looked) → step_reply last queued shots look admin current ≡ refused NotScanning
-
--- the look at a seat: the place of its row, its due time and what is decided
-pub record LooksAt (jobs : List Job) (offset : ℤ) (at : ℕ) (seat : Seat) (look : Look) : Type 0 where
-  pub row : Job
-  pub here : slice_get jobs look.place ≡ Some row
-  pub seen : look_seat offset at jobs (Some seat) ≡ Some (record { row = row; due = look.due; decision = look.decision })

@@ -1,1 +1,4 @@
 pub mod RowLemmas
+pub mod SeatLemmas
+pub mod OrderLemmas
+pub mod RunLemmas

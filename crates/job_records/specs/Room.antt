@@ -1,5 +1,5 @@
 -- What contracts see of the records: the tables, and how many more rows fit without memory.
-use Rattle.std.specs.Prelude.{ℕ, ◌≤◌, List, count_by, Bool, true, false}
+use Rattle.std.specs.Prelude.{ℕ, ◌+◌, ◌≤◌, List, count_by, Bool, true, false}
 use Rattle.job_records.specs.declared.change.Change.{Change}
 use Rattle.job_records.specs.declared.change.Change.TheVariants as change
 use Rattle.job_records.specs.Tables.{Tables}
@@ -46,3 +46,10 @@ pub record HasNoLessRoom (old new : Room) : Type 0 where
   pub jobs : old.jobs ≤ new.jobs
   pub logs : old.logs ≤ new.logs
   pub registry : old.registry ≤ new.registry
+
+-- no list has less room than before, but for the rows that these changes put
+pub record KeepsRoom (old new : Room) (changes : List Change) : Type 0 where
+  pub groups : old.groups ≤ new.groups + count_by puts_group changes
+  pub jobs : old.jobs ≤ new.jobs + count_by puts_job changes
+  pub logs : old.logs ≤ new.logs + count_by puts_log changes
+  pub registry : old.registry ≤ new.registry + count_by puts_registration changes

@@ -2,7 +2,10 @@
 //! ids, and how a row is found by its id.
 #![tactic(auto)]
 
+mod apply;
 pub mod change;
+mod drops;
+mod edits;
 pub mod group;
 pub mod job;
 pub mod last_ids;
@@ -11,6 +14,8 @@ pub mod log;
 pub mod records;
 pub mod registry;
 pub mod row;
+mod runs;
+mod seat;
 
 pub use change::Change;
 pub use group::Group;

@@ -1,18 +1,16 @@
 //! The records: the rows that the admins share, found by their ids and changed by lists of changes.
-ghost use Rattle.std.specs.Prelude.{◌≡◌, ◌↔◌, IsTrue, OnOk};
+ghost use Rattle.std.specs.Prelude.{◌≡◌};
 ghost use Rattle.std.specs.Option.{option_copied};
 ghost use Rattle.job_records.specs.Rows.{row_with};
 ghost use Rattle.job_records.specs.Tables.{no_rows};
 ghost use Rattle.job_records.specs.Rules.{KeepsRules};
-ghost use Rattle.job_records.specs.Changes.{applied, applied_all, AreAllowed};
-ghost use Rattle.job_records.specs.Room.{HasRoom, HasNoLessRoom};
 
 use super::group::Group;
 use super::job::Job;
 use super::last_ids::LastIds;
 use super::log::Log;
 use super::registry::RegistryRow;
-use super::row::place_of;
+use super::row::row_at;
 use job_values::{GroupId, JobId, LogId};
 use std::alloc::Global;
 use std::marker::Model;
@@ -20,11 +18,11 @@ use std::marker::Model;
 /// The rows that the admins share, and the last ids that were given.
 #[derive(Drop)]
 pub struct Records {
-    groups: Vec<Group>,
-    jobs: Vec<Job>,
-    logs: Vec<Log>,
-    registry: Vec<RegistryRow>,
-    last: LastIds,
+    pub(crate) groups: Vec<Group>,
+    pub(crate) jobs: Vec<Job>,
+    pub(crate) logs: Vec<Log>,
+    pub(crate) registry: Vec<RegistryRow>,
+    pub(crate) last: LastIds,
 }
 
 impl Model for Records {
@@ -69,24 +67,21 @@ impl Records {
     pub fn group(&self, id: GroupId) -> Option<&Group>
         ensures { option_copied result ≡ row_with (λ group. group.id) id self.now.kept.groups }
     {
-        let place = place_of(self.groups.as_slice(), id.get() as u64)?;
-        self.groups.get(place)
+        row_at(self.groups.as_slice(), id.get() as u64)
     }
 
     /// The job with this id; None exactly where there is none.
     pub fn job(&self, id: JobId) -> Option<&Job>
         ensures { option_copied result ≡ row_with (λ job. job.id) id self.now.kept.jobs }
     {
-        let place = place_of(self.jobs.as_slice(), id.get() as u64)?;
-        self.jobs.get(place)
+        row_at(self.jobs.as_slice(), id.get() as u64)
     }
 
     /// The log with this id; None exactly where there is none.
     pub fn log(&self, id: LogId) -> Option<&Log>
         ensures { option_copied result ≡ row_with (λ log. log.id) id self.now.kept.logs }
     {
-        let place = place_of(self.logs.as_slice(), id.get())?;
-        self.logs.get(place)
+        row_at(self.logs.as_slice(), id.get())
     }
 
     /// The groups, in order of their ids.
@@ -119,7 +114,8 @@ impl Records {
 
     /// The last ids that were given.
     pub fn last_ids(&self) -> LastIds
-        ensures { result ≡ self.now.kept.last }
+        ensures value { result ≡ self.now.kept.last }
+        ensures rules { KeepsRules self.now.kept }
     {
         self.last
     }

@@ -1,6 +1,7 @@
 //! Rows that are kept in order of their ids, and the search for an id.
 ghost use Rattle.std.specs.Prelude.{◌≡◌, ℕ, length};
-ghost use Rattle.job_records.specs.Rows.{RisesFrom, IsPlaceOf};
+ghost use Rattle.job_records.specs.Rows.{RisesFrom, IsPlaceOf, row_with};
+ghost use Rattle.std.specs.Option.{option_copied};
 
 /// A row that has an id.
 pub trait Row {
@@ -31,4 +32,15 @@ pub fn place_of<R: Row>(rows: &[R], id: u64) -> Option<usize>
         }
     }
     None
+}
+
+/// The row with this id, if there is one.
+pub(crate) fn row_at<R: Row>(rows: &[R], id: u64) -> Option<&R>
+    requires { RisesFrom R.id_of 0 rows.now }
+    ensures { option_copied result ≡ row_with R.id_of id rows.now }
+{
+    match place_of(rows, id) {
+        Some(place) => rows.get(place),
+        None => None,
+    }
 }

@@ -25,6 +25,11 @@ pub data History : Type 0 where
   Begin : Opening → History
   After : History → ClusterEvent → ClusterReply → History
 
+-- what a history opened with
+abbrev pub opening_of : History → Opening
+opening_of (Begin o) = o
+opening_of (After h e r) = opening_of h
+
 -- whether a reply refuses its event
 abbrev pub is_refusal : ClusterReply → Bool
 is_refusal (Refused why) = true

@@ -1,15 +1,15 @@
 -- Runs of events, and what is counted of a history.
-use Rattle.std.specs.Prelude.{◌≡◌, ℕ, List, [], ◌∷◌, map, length, sum, count_by}
+use Rattle.std.specs.Prelude.{◌≡◌, ℕ, List, [], ◌∷◌, map, length, sum, count_by, false}
 use Rattle.job_values.specs.declared.job.Report.{Report}
 use Rattle.job_values.specs.declared.cluster.ClusterEvent.{ClusterEvent}
 use Rattle.job_values.specs.declared.cluster.ClusterReply.{ClusterReply}
 use Rattle.job_records.specs.Rows.{IsRising}
-use Rattle.cluster_history.specs.History.{History, Begin, After, accepted}
+use Rattle.cluster_history.specs.History.{History, Begin, After, Opening, accepted, is_refusal}
 use Rattle.cluster_history.specs.Nodes.{admins}
 use Rattle.cluster_history.specs.Jobs.{jobs_of}
 use Rattle.cluster_history.specs.Tickets.{waiting_at}
 use Rattle.cluster_history.specs.Logs.{logs_of, queue_of, is_failed, is_settled}
-use Rattle.cluster_history.specs.Replies.{reply_of, counted_to}
+use Rattle.cluster_history.specs.Replies.{reply_of, reply_after, counted_to}
 
 -- the history with these events behind it, each with its reply
 abbrev pub run : History → List ClusterEvent → History
@@ -21,11 +21,21 @@ abbrev pub replies : History → List ClusterEvent → List ClusterReply
 replies h [] = []
 replies h (e ∷ es) = reply_of h e ∷ replies (After h e (reply_of h e)) es
 
--- each reply is the one that its event has after the entries before it, and the opening's ids rise up to the last ones
+-- the ids of an opening's rows rise up to the last ids that were given
+pub record OpensWell (o : Opening) : Type 0 where
+  pub jobs : IsRising (λ job. job.id) 0 o.jobs o.last_job
+  pub groups : IsRising (λ group. group.id) 0 o.groups o.last_group
+  pub logs : IsRising (λ log. log.id) 0 o.logs o.last_log
+
+-- the opening is well, and each reply is the one that its event has after the entries before it
 abbrev pub IsLegal : History → Type 0
-IsLegal (Begin o) =
-    IsRising (λ job. job.id) 0 o.jobs o.last_job × IsRising (λ group. group.id) 0 o.groups o.last_group × IsRising (λ log. log.id) 0 o.logs o.last_log
+IsLegal (Begin o) = OpensWell o
 IsLegal (After h e r) = IsLegal h × (r ≡ reply_of h e)
+
+-- each entry is accepted, with the reply that its event has after those before it
+abbrev pub IsAnswered : History → Type 0
+IsAnswered (Begin o) = Unit {0}
+IsAnswered (After h e r) = IsAnswered h × (r ≡ reply_after h e) × (is_refusal r ≡ false)
 
 -- the tickets in all rings
 abbrev pub waiting_in : History → ℕ

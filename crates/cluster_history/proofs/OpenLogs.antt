@@ -9,7 +9,7 @@ use Rattle.std.proofs.lemmas.List.Elements.{filter-append, All-from_recursion}
 use Rattle.std.proofs.lemmas.List.Sums.{length-filter}
 use Rattle.std.proofs.lemmas.List.Folds.{list_any_at}
 use Rattle.std.proofs.lemmas.List.FromFn.{get_or-range_with_len, length-range_with_len}
-use Rattle.job_values.specs.declared.cluster.ClusterEvent.TheVariants.{NodeStart, NodeStop, NodeAsk, AddGroup, SetGroup, AddJob, UpdateJob, StartJob, StopJob, RemoveJob, TriggerJob, ScanBegin, ScanStep, Turn, ReadLog, Reopen}
+use Rattle.job_values.specs.declared.cluster.ClusterEvent.TheVariants.{NodeStop, TriggerJob, ScanStep, Turn, Reopen}
 use Rattle.job_values.specs.declared.words.PoolAnswer.TheVariants.{Fast, Full}
 use Rattle.job_records.specs.declared.log.Log.{Log}
 use Rattle.job_records.specs.Rows.{IsRising}
@@ -95,17 +95,7 @@ open_logs (After h Reopen r) well a below = reopened-open (opener_of h) a (logs_
 open_logs (After h (ScanStep admin) r) well a below = opened-behind (opener_of h) (queue_of h) a admin (last_log h) (logs_of h) (shots_stepped h) (logs_rise h well) (open_logs h well a below)
 open_logs (After h (Turn admin at) r) well a below = opened-behind (opener_of h) (queue_of h) a admin (last_log h) (logs_of h) (shots_turned h admin at) (logs_rise h well) (open_logs h well a below)
 open_logs (After h (TriggerJob admin at job param) r) well a below = opened-behind (opener_of h) (queue_of h) a admin (last_log h) (logs_of h) (shots_asked h at job param) (logs_rise h well) (open_logs h well a below)
-open_logs (After h (NodeStart admin) r) well a below = open_logs h well a below
-open_logs (After h (NodeAsk admin) r) well a below = open_logs h well a below
-open_logs (After h (AddGroup app kind addresses) r) well a below = open_logs h well a below
-open_logs (After h (SetGroup id kind addresses) r) well a below = open_logs h well a below
-open_logs (After h (AddJob spec) r) well a below = open_logs h well a below
-open_logs (After h (UpdateJob at job spec) r) well a below = open_logs h well a below
-open_logs (After h (StartJob at job) r) well a below = open_logs h well a below
-open_logs (After h (StopJob job) r) well a below = open_logs h well a below
-open_logs (After h (RemoveJob job) r) well a below = open_logs h well a below
-open_logs (After h (ScanBegin admin at) r) well a below = open_logs h well a below
-open_logs (After h (ReadLog log) r) well a below = open_logs h well a below
+open_logs (After h _ r) well a below = open_logs h well a below
 
 -- so there are as many
 pub open_count : (h : History) → OpensWell (opening_of h) → (a : ℕ) → a < ADMINS → open_at h a ≡ length (queue_of h a)
@@ -176,17 +166,7 @@ queue-low (After h Reopen r) a = tt
 queue-low (After h (ScanStep admin) r) a = low-behind_if (last_log h) (length (queue_of h a)) (queue_of h a) (shots_stepped h) (eqb a admin) (queue-low h a)
 queue-low (After h (Turn admin at) r) a = low-behind_if (last_log h) (length (queue_of h a)) (queue_of h a) (shots_turned h admin at) (eqb a admin) (queue-low h a)
 queue-low (After h (TriggerJob admin at job param) r) a = low-behind_if (last_log h) (length (queue_of h a)) (queue_of h a) (shots_asked h at job param) (eqb a admin) (queue-low h a)
-queue-low (After h (NodeStart admin) r) a = queue-low h a
-queue-low (After h (NodeAsk admin) r) a = queue-low h a
-queue-low (After h (AddGroup app kind addresses) r) a = queue-low h a
-queue-low (After h (SetGroup id kind addresses) r) a = queue-low h a
-queue-low (After h (AddJob spec) r) a = queue-low h a
-queue-low (After h (UpdateJob at job spec) r) a = queue-low h a
-queue-low (After h (StartJob at job) r) a = queue-low h a
-queue-low (After h (StopJob job) r) a = queue-low h a
-queue-low (After h (RemoveJob job) r) a = queue-low h a
-queue-low (After h (ScanBegin admin at) r) a = queue-low h a
-queue-low (After h (ReadLog log) r) a = queue-low h a
+queue-low (After h _ r) a = queue-low h a
 
 pub queue_low : (h : History) (a : ℕ) → All (λ id. id ≤ last_log h) (queue_of h a)
 queue_low h a = All-from_recursion (λ id. id ≤ last_log h) (queue_of h a) (queue-low h a)

@@ -1,7 +1,7 @@
 -- The ids of a history's rows rise up to the last ids that were given.
 use Rattle.std.proofs.Common.{◌≡◌, ℕ, ◌+◌, ◌<◌, ◌≤◌, List, [], ◌∷◌, ◌++◌, Bool, true, false, cond, eqb, length, map, refl, sym, subst, arith}
 use Rattle.std.specs.List.{filter}
-use Rattle.job_values.specs.declared.cluster.ClusterEvent.TheVariants.{NodeStart, NodeStop, NodeAsk, AddGroup, SetGroup, AddJob, UpdateJob, StartJob, StopJob, RemoveJob, TriggerJob, ScanBegin, ScanStep, Turn, ReadLog, Reopen}
+use Rattle.job_values.specs.declared.cluster.ClusterEvent.TheVariants.{NodeStop, AddGroup, SetGroup, AddJob, RemoveJob, TriggerJob, ScanStep, Turn, Reopen}
 use Rattle.job_records.specs.declared.job.Job.{Job}
 use Rattle.job_records.specs.declared.group.Group.{Group}
 use Rattle.job_records.specs.declared.log.Log.{Log}
@@ -65,40 +65,14 @@ groups_rise (After h (AddGroup app kind addresses) r) well =
     rising-push (λ (group : Group). group.id) 0 (last_group h) (groups_of h) (record { id = last_group h + 1; app = app; kind = kind; addresses = addresses }) (groups_rise h well) (omega arith)
 groups_rise (After h (SetGroup id kind addresses) r) well =
     rising-mapped (λ (group : Group). group.id) _ (λ (group : Group). change-keeps id group (λ (g : Group). record { id = g.id; app = g.app; kind = kind; addresses = addresses }) (eqb group.id id) refl) 0 (last_group h) (groups_of h) (groups_rise h well)
-groups_rise (After h (NodeStart admin) r) well = groups_rise h well
-groups_rise (After h (NodeStop admin) r) well = groups_rise h well
-groups_rise (After h (NodeAsk admin) r) well = groups_rise h well
-groups_rise (After h (AddJob spec) r) well = groups_rise h well
-groups_rise (After h (UpdateJob at job spec) r) well = groups_rise h well
-groups_rise (After h (StartJob at job) r) well = groups_rise h well
-groups_rise (After h (StopJob job) r) well = groups_rise h well
-groups_rise (After h (RemoveJob job) r) well = groups_rise h well
-groups_rise (After h (TriggerJob admin at job param) r) well = groups_rise h well
-groups_rise (After h (ScanBegin admin at) r) well = groups_rise h well
-groups_rise (After h (ScanStep admin) r) well = groups_rise h well
-groups_rise (After h (Turn admin at) r) well = groups_rise h well
-groups_rise (After h (ReadLog log) r) well = groups_rise h well
-groups_rise (After h Reopen r) well = groups_rise h well
+groups_rise (After h _ r) well = groups_rise h well
 
 -- the ids of the present jobs rise up to the last one
 pub ids_rise : (h : History) → OpensWell (opening_of h) → IsRising (λ id. id) 0 (ids_of h) (last_job h)
 ids_rise (Begin o) well = rising-ids (λ (job : Job). job.id) 0 o.last_job o.jobs well.jobs
 ids_rise (After h (AddJob spec) r) well = rising-push (λ (id : ℕ). id) 0 (last_job h) (ids_of h) (last_job h + 1) (ids_rise h well) (omega arith)
 ids_rise (After h (RemoveJob job) r) well = rising-kept (λ (id : ℕ). id) _ 0 (last_job h) (ids_of h) (ids_rise h well)
-ids_rise (After h (AddGroup app kind addresses) r) well = ids_rise h well
-ids_rise (After h (SetGroup id kind addresses) r) well = ids_rise h well
-ids_rise (After h (NodeStart admin) r) well = ids_rise h well
-ids_rise (After h (NodeStop admin) r) well = ids_rise h well
-ids_rise (After h (NodeAsk admin) r) well = ids_rise h well
-ids_rise (After h (UpdateJob at job spec) r) well = ids_rise h well
-ids_rise (After h (StartJob at job) r) well = ids_rise h well
-ids_rise (After h (StopJob job) r) well = ids_rise h well
-ids_rise (After h (TriggerJob admin at job param) r) well = ids_rise h well
-ids_rise (After h (ScanBegin admin at) r) well = ids_rise h well
-ids_rise (After h (ScanStep admin) r) well = ids_rise h well
-ids_rise (After h (Turn admin at) r) well = ids_rise h well
-ids_rise (After h (ReadLog log) r) well = ids_rise h well
-ids_rise (After h Reopen r) well = ids_rise h well
+ids_rise (After h _ r) well = ids_rise h well
 
 pub jobs_rise : (h : History) → OpensWell (opening_of h) → IsRising (λ job. job.id) 0 (jobs_of h) (last_job h)
 jobs_rise h well = rising-rows (λ (job : Job). job.id) (row_of h) (λ id. refl) 0 (last_job h) (ids_of h) (ids_rise h well)
@@ -127,14 +101,4 @@ logs_rise (After h (Turn admin at) r) well =
     rising-behind (λ (log : Log). log.id) 0 (last_log h) (last_log h + length (shots_turned h admin at)) (logs_of h) _ (logs_rise h well) (placed-rise (last_log h) (length (queue_of h admin)) (shots_turned h admin at))
 logs_rise (After h (TriggerJob admin at job param) r) well =
     rising-behind (λ (log : Log). log.id) 0 (last_log h) (last_log h + length (shots_asked h at job param)) (logs_of h) _ (logs_rise h well) (placed-rise (last_log h) (length (queue_of h admin)) (shots_asked h at job param))
-logs_rise (After h (AddGroup app kind addresses) r) well = logs_rise h well
-logs_rise (After h (SetGroup id kind addresses) r) well = logs_rise h well
-logs_rise (After h (NodeStart admin) r) well = logs_rise h well
-logs_rise (After h (NodeAsk admin) r) well = logs_rise h well
-logs_rise (After h (AddJob spec) r) well = logs_rise h well
-logs_rise (After h (UpdateJob at job spec) r) well = logs_rise h well
-logs_rise (After h (StartJob at job) r) well = logs_rise h well
-logs_rise (After h (StopJob job) r) well = logs_rise h well
-logs_rise (After h (RemoveJob job) r) well = logs_rise h well
-logs_rise (After h (ScanBegin admin at) r) well = logs_rise h well
-logs_rise (After h (ReadLog log) r) well = logs_rise h well
+logs_rise (After h _ r) well = logs_rise h well

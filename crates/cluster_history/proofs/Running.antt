@@ -3,7 +3,7 @@ use Rattle.std.proofs.Common.{◌≡◌, ℕ, List, [], ◌∷◌, ◌++◌, Boo
 use Rattle.std.specs.List.{filter, AllByRecursion}
 use Rattle.std.proofs.lemmas.Bool.{false≢true, true≢false}
 use Rattle.std.proofs.lemmas.Bool.Decides.{nat_tests}
-use Rattle.job_values.specs.declared.cluster.ClusterEvent.TheVariants.{NodeStart, NodeStop, NodeAsk, AddGroup, SetGroup, AddJob, UpdateJob, StartJob, StopJob, RemoveJob, TriggerJob, ScanBegin, ScanStep, Turn, ReadLog, Reopen}
+use Rattle.job_values.specs.declared.cluster.ClusterEvent.TheVariants.{NodeStart, NodeStop, TriggerJob, ScanStep, Turn, Reopen}
 use Rattle.cluster_history.specs.declared.ticket.Ticket.{Ticket}
 use Rattle.cluster_history.specs.History.{History, Begin, After}
 use Rattle.cluster_history.specs.Nodes.{runs}
@@ -42,16 +42,7 @@ queue_stopped (After h (Turn admin at) r) answered a stopped =
     of-other (runs h) a admin (eqb a admin) (behind h (queue_of h a) (shots_turned h admin at)) (queue_of h a) refl stopped (running_since (runs h admin) admin _ r answered.1 answered.2) (queue_stopped h answered.0 a stopped)
 queue_stopped (After h (TriggerJob admin at job param) r) answered a stopped =
     of-other (runs h) a admin (eqb a admin) (behind h (queue_of h a) (shots_asked h at job param)) (queue_of h a) refl stopped (running_since (runs h admin) admin _ r answered.1 answered.2) (queue_stopped h answered.0 a stopped)
-queue_stopped (After h (NodeAsk admin) r) answered a stopped = queue_stopped h answered.0 a stopped
-queue_stopped (After h (AddGroup app kind addresses) r) answered a stopped = queue_stopped h answered.0 a stopped
-queue_stopped (After h (SetGroup id kind addresses) r) answered a stopped = queue_stopped h answered.0 a stopped
-queue_stopped (After h (AddJob spec) r) answered a stopped = queue_stopped h answered.0 a stopped
-queue_stopped (After h (UpdateJob at job spec) r) answered a stopped = queue_stopped h answered.0 a stopped
-queue_stopped (After h (StartJob at job) r) answered a stopped = queue_stopped h answered.0 a stopped
-queue_stopped (After h (StopJob job) r) answered a stopped = queue_stopped h answered.0 a stopped
-queue_stopped (After h (RemoveJob job) r) answered a stopped = queue_stopped h answered.0 a stopped
-queue_stopped (After h (ScanBegin admin at) r) answered a stopped = queue_stopped h answered.0 a stopped
-queue_stopped (After h (ReadLog log) r) answered a stopped = queue_stopped h answered.0 a stopped
+queue_stopped (After h _ r) answered a stopped = queue_stopped h answered.0 a stopped
 
 -- each ticket is in the ring of an admin that runs
 abbrev Runs : (ℕ → Bool) → List Ticket → Type 0
@@ -102,14 +93,4 @@ tickets_run (After h (NodeStop admin) r) answered = runs-stopped (runs h) admin 
 tickets_run (After h Reopen r) answered = tt
 tickets_run (After h (ScanStep admin) r) answered = runs-behind (runs h) admin (look_of h) (waiting h) (tickets_run h answered.0) (running_since (runs h admin) admin _ r answered.1 answered.2)
 tickets_run (After h (Turn admin at) r) answered = runs-kept (runs h) (λ ticket. not (is_taken admin (second_of at) ticket)) (waiting h) (tickets_run h answered.0)
-tickets_run (After h (TriggerJob admin at job param) r) answered = tickets_run h answered.0
-tickets_run (After h (NodeAsk admin) r) answered = tickets_run h answered.0
-tickets_run (After h (AddGroup app kind addresses) r) answered = tickets_run h answered.0
-tickets_run (After h (SetGroup id kind addresses) r) answered = tickets_run h answered.0
-tickets_run (After h (AddJob spec) r) answered = tickets_run h answered.0
-tickets_run (After h (UpdateJob at job spec) r) answered = tickets_run h answered.0
-tickets_run (After h (StartJob at job) r) answered = tickets_run h answered.0
-tickets_run (After h (StopJob job) r) answered = tickets_run h answered.0
-tickets_run (After h (RemoveJob job) r) answered = tickets_run h answered.0
-tickets_run (After h (ScanBegin admin at) r) answered = tickets_run h answered.0
-tickets_run (After h (ReadLog log) r) answered = tickets_run h answered.0
+tickets_run (After h _ r) answered = tickets_run h answered.0

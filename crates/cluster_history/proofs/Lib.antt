@@ -1,0 +1,6 @@
+pub mod RowIds
+pub mod OpenRows
+pub mod Marks
+pub mod OpenLogs
+pub mod Answered
+pub mod Running

@@ -1,0 +1,2 @@
+pub mod AdminLemmas
+pub mod RingLemmas

@@ -1,2 +1,5 @@
 pub mod AdminLemmas
+pub mod NodeLemmas
+pub mod PlanLemmas
 pub mod RingLemmas
+pub mod OpeningLemmas

@@ -5,15 +5,22 @@ ghost use Rattle.cluster_core.specs.Kept.{kept_of};
 ghost use Rattle.cluster_core.specs.Plans.{IsPlanned};
 
 use super::cluster::Cluster;
-use super::prepared::Prepared;
-use job_values::{AdminNo, ClusterReply, NoMemory};
+use super::prepared::{NodeChange, Prepared};
+use job_values::{AdminNo, ClusterRefusal, ClusterReply, NoMemory, Seq};
 
 impl Cluster {
     /// An admin starts.
     pub(crate) fn plan_start(&self, admin: AdminNo) -> Prepared
         ensures { IsPlanned (kept_of self.now) (NodeStart admin) result }
     {
-        Prepared::answer(self.alloc, ClusterReply::Done)
+        if self.is_running(admin) {
+            return Prepared::refusal(self.alloc, ClusterRefusal::NodeRunning(admin));
+        }
+        Prepared {
+            reply: ClusterReply::Done,
+            changes: Seq::new(self.alloc),
+            node: NodeChange::Starts(admin),
+        }
     }
 
     /// An admin stops: its logs that were not sent end, and its ring and its scan are lost.
@@ -27,6 +34,9 @@ impl Cluster {
     pub(crate) fn plan_ask(&self, admin: AdminNo) -> Prepared
         ensures { IsPlanned (kept_of self.now) (NodeAsk admin) result }
     {
+        if !self.is_running(admin) {
+            return Prepared::refusal(self.alloc, ClusterRefusal::NodeStopped(admin));
+        }
         Prepared::answer(self.alloc, ClusterReply::Done)
     }
 

@@ -11,6 +11,7 @@ mod groups;
 mod ids;
 mod jobs;
 mod nodes;
+mod opening;
 mod pages;
 mod pools;
 pub mod prepared;

@@ -2,3 +2,4 @@ pub mod RowLemmas
 pub mod SeatLemmas
 pub mod OrderLemmas
 pub mod RunLemmas
+pub mod PutLemmas

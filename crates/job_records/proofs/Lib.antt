@@ -3,3 +3,4 @@ pub mod SeatLemmas
 pub mod OrderLemmas
 pub mod RunLemmas
 pub mod PutLemmas
+pub mod Keeping

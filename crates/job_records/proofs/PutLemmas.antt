@@ -65,7 +65,7 @@ pub put_present : {R : Type 0} (id_of : R → ℕ) (low : ℕ) (row found : R) (
 put_present id_of low row found [] h is = (cc)
 put_present id_of low row found (first ∷ rows) h is =
     let skip : (b : Bool) → eqb (id_of first) (id_of row) ≡ b → changed id_of (id_of row) (λ _. row) (first ∷ rows) ≡ cond b row first ∷ changed id_of (id_of row) (λ _. row) rows =
-      λ b e. ap (λ (c : Bool). cond c row first ∷ changed id_of (id_of row) (λ _. row) rows) e in
+    λ b e. ap (λ (c : Bool). cond c row first ∷ changed id_of (id_of row) (λ _. row) rows) e in
     by_cmp (id_of first) (id_of row)
     (λ less.
     let test : eqb (id_of first) (id_of row) ≡ false = test-false (id_of first) (id_of row) (λ e. omega arith) in

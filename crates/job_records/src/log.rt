@@ -4,8 +4,8 @@ ghost use Rattle.std.specs.Prelude.{◌≡◌, IfOk};
 
 use super::row::Row;
 use job_values::{
-    Address, Block, GroupId, HandlerName, JobId, LogId, Moment, NoMemory, ParamText, ResultText, Retries,
-    Route, ShardNo, Timeout, TriggerKind,
+    Address, Block, GroupId, HandlerName, JobId, LogId, Moment, NoMemory, ParamText, ResultText,
+    Retries, Route, ShardNo, Timeout, TriggerKind,
 };
 use std::alloc::Global;
 

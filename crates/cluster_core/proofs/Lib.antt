@@ -1,3 +1,4 @@
 pub mod PlanLemmas
 pub mod AdminLemmas
 pub mod NodeLemmas
+pub mod EnteredLemmas

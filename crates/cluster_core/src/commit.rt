@@ -1,5 +1,5 @@
 //! What a prepared event changes beside the rows.
-ghost use Rattle.std.specs.Prelude.{◌≡◌, ◌≤◌, length, map, replicate, vec_len, false};
+ghost use Rattle.std.specs.Prelude.{◌≡◌, ◌≤◌, length, map, replicate, false};
 ghost use Rattle.time_ring.specs.Ring.{no_tickets};
 ghost use Rattle.trigger_pool.specs.Pool.{no_logs};
 ghost use Rattle.cluster_history.specs.Pages.{unless_owner};
@@ -39,7 +39,7 @@ fn close_of(scan: &mut Option<Scan>, admin: AdminNo)
 
 /// No admin runs.
 fn stop_running(running: &mut Vec<bool>)
-    ensures { running.new.items ≡ replicate (vec_len running.old) false }
+    ensures { running.new.items ≡ replicate (length running.old.items) false }
 {
     for one in running.iter_mut() {
         *one = false;
@@ -48,7 +48,7 @@ fn stop_running(running: &mut Vec<bool>)
 
 /// Drops the tickets of all rings.
 fn clear_rings(rings: &mut Vec<TimeRing>)
-    ensures { map (λ ring. ring.slots) rings.new.items ≡ replicate (vec_len rings.old) no_tickets }
+    ensures { map (λ ring. ring.slots) rings.new.items ≡ replicate (length rings.old.items) no_tickets }
 {
     for ring in rings.iter_mut() {
         ring.clear();
@@ -57,7 +57,7 @@ fn clear_rings(rings: &mut Vec<TimeRing>)
 
 /// Drops the logs of all pools.
 fn empty_pools(alloc: Global, pools: &mut Vec<Pools>)
-    ensures { map (λ pool. pool.kept) pools.new.items ≡ replicate (vec_len pools.old) no_logs }
+    ensures { map (λ pool. pool.kept) pools.new.items ≡ replicate (length pools.old.items) no_logs }
 {
     for one in pools.iter_mut() {
         *one = Pools::new(alloc);

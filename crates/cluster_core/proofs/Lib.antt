@@ -1,5 +1,9 @@
 pub mod AdminLemmas
 pub mod NodeLemmas
 pub mod PlanLemmas
+pub mod EnteredLemmas
+pub mod KeptLemmas
+pub mod SoundLemmas
 pub mod RingLemmas
 pub mod OpeningLemmas
+pub mod FiringLemmas

@@ -1,5 +1,5 @@
 //! What a prepared event changes beside the rows.
-ghost use Rattle.std.specs.Prelude.{◌≡◌, ◌≤◌, length, map, false};
+ghost use Rattle.std.specs.Prelude.{◌≡◌, ◌≤◌, length, map, replicate, false};
 ghost use Rattle.time_ring.specs.Ring.{no_tickets};
 ghost use Rattle.trigger_pool.specs.Pool.{no_logs};
 ghost use Rattle.cluster_history.specs.Pages.{unless_owner};
@@ -39,27 +39,27 @@ fn close_of(scan: &mut Option<Scan>, admin: AdminNo)
 
 /// No admin runs.
 fn stop_running(running: &mut Vec<bool>)
-    ensures { running.new.items ≡ map (λ running. false) running.old.items }
+    ensures { running.new.items ≡ replicate (length running.old.items) false }
 {
-    for one in running {
+    for one in running.iter_mut() {
         *one = false;
     }
 }
 
 /// Drops the tickets of all rings.
 fn clear_rings(rings: &mut Vec<TimeRing>)
-    ensures { map (λ ring. ring.slots) rings.new.items ≡ map (λ ring. no_tickets) (map (λ ring. ring.slots) rings.old.items) }
+    ensures { map (λ ring. ring.slots) rings.new.items ≡ replicate (length rings.old.items) no_tickets }
 {
-    for ring in rings {
+    for ring in rings.iter_mut() {
         ring.clear();
     }
 }
 
 /// Drops the logs of all pools.
 fn empty_pools(alloc: Global, pools: &mut Vec<Pools>)
-    ensures { map (λ pool. pool.kept) pools.new.items ≡ map (λ pools. no_logs) (map (λ pool. pool.kept) pools.old.items) }
+    ensures { map (λ pool. pool.kept) pools.new.items ≡ replicate (length pools.old.items) no_logs }
 {
-    for one in pools {
+    for one in pools.iter_mut() {
         *one = Pools::new(alloc);
     }
 }

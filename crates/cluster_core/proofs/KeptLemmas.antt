@@ -1,0 +1,48 @@
+-- What a change beside the rows makes of what is kept.
+use Rattle.std.proofs.Common.{◌≡◌, ℕ, ◌<◌, ◌≤◌, List, [], ◌∷◌, Bool, true, false, map, length, get_or, set, replicate, Option, Some, None, refl, sym, ap, ◌∙◌, subst, arith}
+use Rattle.std.proofs.lemmas.List.{map-set, length-map}
+use Rattle.std.proofs.lemmas.Simd.{splat_is_map}
+use Rattle.time_ring.specs.declared.ticket.Ticket.{Ticket}
+use Rattle.time_ring.specs.Ring.{Ring, no_tickets}
+use Rattle.trigger_pool.specs.Pool.{PoolState, Queues, no_logs}
+use Rattle.cluster_history.specs.declared.scan.Scan.{Scan}
+use Rattle.cluster_history.specs.Pages.{unless_owner, stepped}
+use Rattle.cluster_core.specs.declared.prepared.NodeChange.TheVariants as node
+use Rattle.cluster_core.specs.Kept.{Kept, ClusterState, kept_of}
+use Rattle.cluster_core.specs.Commits.{node_changed}
+
+-- a ring in the place of one
+pub slots-set : (rings : List Ring) (place : ℕ) (ring : Ring) (slots : List (List Ticket)) → ring.slots ≡ slots → map (λ (r : Ring). r.slots) (set rings place ring) ≡ set (map (λ (r : Ring). r.slots) rings) place slots
+slots-set rings place ring slots is = map-set (λ (r : Ring). r.slots) rings place ring ∙ ap (set (map (λ (r : Ring). r.slots) rings) place) is
+
+-- the pools of an admin in the place of others
+pub pools-set : (pools : List PoolState) (place : ℕ) (pool : PoolState) (kept : Queues) → pool.kept ≡ kept → map (λ (p : PoolState). p.kept) (set pools place pool) ≡ set (map (λ (p : PoolState). p.kept) pools) place kept
+pools-set pools place pool kept is = map-set (λ (p : PoolState). p.kept) pools place pool ∙ ap (set (map (λ (p : PoolState). p.kept) pools) place) is
+
+-- what is kept, by its parts
+pub kept-by : (state : ClusterState) (running more : List Bool) (scan next : Option Scan) (rings : List Ring) (slots : List (List (List Ticket))) (pools : List PoolState) (queues : List Queues) → running ≡ more → scan ≡ next → map (λ (r : Ring). r.slots) rings ≡ slots → map (λ (p : PoolState). p.kept) pools ≡ queues
+    → kept_of (record state { running = running; scan = scan; rings = rings; pools = pools }) ≡ record (kept_of state) { running = more; scan = next; rings = slots; pools = queues }
+kept-by state running more scan next rings slots pools queues a b d e = (cc)
+
+-- an admin stops
+pub kept-stopped : (state : ClusterState) (admin place : ℕ) (scan : Option Scan) (ring : Ring) (pool : PoolState) → place ≡ admin → scan ≡ unless_owner admin state.scan → ring.slots ≡ no_tickets → pool.kept ≡ no_logs
+    → kept_of (record state { running = set state.running place false; scan = scan; rings = set state.rings place ring; pools = set state.pools place pool }) ≡ node_changed (node.Stops admin) (kept_of state)
+kept-stopped state admin place scan ring pool here closed empty none =
+    kept-by state (set state.running place false) (set state.running admin false) scan (unless_owner admin state.scan) (set state.rings place ring) (set (map (λ (r : Ring). r.slots) state.rings) admin no_tickets) (set state.pools place pool) (set (map (λ (p : PoolState). p.kept) state.pools) admin no_logs)
+    (ap (λ n. set state.running n false) here) closed
+    (slots-set state.rings place ring no_tickets empty ∙ ap (λ n. set (map (λ (r : Ring). r.slots) state.rings) n no_tickets) here)
+    (pools-set state.pools place pool no_logs none ∙ ap (λ n. set (map (λ (p : PoolState). p.kept) state.pools) n no_logs) here)
+
+-- a list of one value, as long as another list
+pub all-same : {X Y : Type 0} (xs : List X) (y : Y) → replicate (length xs) y ≡ map (λ (x : X). y) xs
+all-same [] y = refl
+all-same (x ∷ xs) y = ap (λ ys. y ∷ ys) (all-same xs y)
+
+-- every admin stops
+pub kept-stopped-all : (state : ClusterState) (running : List Bool) (rings : List Ring) (pools : List PoolState) → running ≡ replicate (length state.running) false → map (λ (r : Ring). r.slots) rings ≡ replicate (length state.rings) no_tickets → map (λ (p : PoolState). p.kept) pools ≡ replicate (length state.pools) no_logs
+    → kept_of (record state { running = running; scan = None; rings = rings; pools = pools }) ≡ node_changed node.StopsAll (kept_of state)
+kept-stopped-all state running rings pools stopped empty none =
+    kept-by state running (map (λ (b : Bool). false) state.running) None None rings (map (λ (r : List (List Ticket)). no_tickets) (map (λ (r : Ring). r.slots) state.rings)) pools (map (λ (q : Queues). no_logs) (map (λ (p : PoolState). p.kept) state.pools))
+    (stopped ∙ all-same state.running false) refl
+    (empty ∙ ap (λ n. replicate n no_tickets) (sym (length-map state.rings (λ (r : Ring). r.slots))) ∙ all-same (map (λ (r : Ring). r.slots) state.rings) no_tickets)
+    (none ∙ ap (λ n. replicate n no_logs) (sym (length-map state.pools (λ (p : PoolState). p.kept))) ∙ all-same (map (λ (p : PoolState). p.kept) state.pools) no_logs)

@@ -7,3 +7,4 @@ pub mod SoundLemmas
 pub mod RingLemmas
 pub mod OpeningLemmas
 pub mod FiringLemmas
+pub mod FireLemmas

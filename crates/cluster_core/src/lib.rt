@@ -7,6 +7,7 @@ mod commit;
 mod counts;
 mod edits;
 mod fires;
+mod firing;
 mod groups;
 mod ids;
 mod jobs;

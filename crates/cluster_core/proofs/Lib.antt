@@ -1,6 +1,10 @@
-pub mod PlanLemmas
 pub mod AdminLemmas
+pub mod PlanLemmas
+pub mod RingLemmas
+pub mod StandsLemmas
 pub mod NodeLemmas
 pub mod EnteredLemmas
 pub mod KeptLemmas
 pub mod SoundLemmas
+pub mod CountLemmas
+pub mod ShownLemmas

@@ -7,4 +7,3 @@ pub mod EnteredLemmas
 pub mod KeptLemmas
 pub mod SoundLemmas
 pub mod CountLemmas
-pub mod ShownLemmas

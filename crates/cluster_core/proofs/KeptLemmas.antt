@@ -1,14 +1,13 @@
 -- What a change beside the rows makes of what is kept.
 use Rattle.std.proofs.Common.{◌≡◌, ℕ, ◌<◌, ◌≤◌, List, [], ◌∷◌, Bool, true, false, map, length, get_or, set, replicate, Option, Some, None, refl, sym, ap, ◌∙◌, subst, arith}
-use Rattle.std.proofs.lemmas.List.{map-set, length-map}
-use Rattle.std.proofs.lemmas.Simd.{splat_is_map}
+use Rattle.std.proofs.lemmas.List.{map-set, length-map, get_or-map}
 use Rattle.time_ring.specs.declared.ticket.Ticket.{Ticket}
 use Rattle.time_ring.specs.Ring.{Ring, no_tickets}
 use Rattle.trigger_pool.specs.Pool.{PoolState, Queues, no_logs}
 use Rattle.cluster_history.specs.declared.scan.Scan.{Scan}
 use Rattle.cluster_history.specs.Pages.{unless_owner, stepped}
 use Rattle.cluster_core.specs.declared.prepared.NodeChange.TheVariants as node
-use Rattle.cluster_core.specs.Kept.{Kept, ClusterState, kept_of}
+use Rattle.cluster_core.specs.Kept.{Kept, ClusterState, kept_of, ring_at, pools_at}
 use Rattle.cluster_core.specs.Commits.{node_changed}
 
 -- a ring in the place of one
@@ -46,3 +45,27 @@ kept-stopped-all state running rings pools stopped empty none =
     (stopped ∙ all-same state.running false) refl
     (empty ∙ ap (λ n. replicate n no_tickets) (sym (length-map state.rings (λ (r : Ring). r.slots))) ∙ all-same (map (λ (r : Ring). r.slots) state.rings) no_tickets)
     (none ∙ ap (λ n. replicate n no_logs) (sym (length-map state.pools (λ (p : PoolState). p.kept))) ∙ all-same (map (λ (p : PoolState). p.kept) state.pools) no_logs)
+
+-- the ring at a place, as it is kept
+pub slots-read : (rings : List Ring) (admin place : ℕ) (ring : Ring) → place ≡ admin → admin < length rings → ring ≡ get_or rings place ring → ring.slots ≡ ring_at (map (λ (r : Ring). r.slots) rings) admin
+slots-read rings admin place ring here below is =
+    ap (λ (r : Ring). r.slots) (is ∙ ap (λ n. get_or rings n ring) here) ∙ sym (get_or-map (λ (r : Ring). r.slots) rings admin ring [] below)
+
+-- the pools at a place, as they are kept
+pub pools-read : (pools : List PoolState) (admin place : ℕ) (pool : PoolState) → place ≡ admin → admin < length pools → pool ≡ get_or pools place pool → pool.kept ≡ pools_at (map (λ (p : PoolState). p.kept) pools) admin
+pools-read pools admin place pool here below is =
+    ap (λ (p : PoolState). p.kept) (is ∙ ap (λ n. get_or pools n pool) here) ∙ sym (get_or-map (λ (p : PoolState). p.kept) pools admin pool no_logs below)
+
+-- a ring at a place, made from the one that was there
+pub slots-changed : (rings : List Ring) (admin place : ℕ) (old new : Ring) (f : List (List Ticket) → List (List Ticket)) → place ≡ admin → admin < length rings → old ≡ get_or rings place old → new.slots ≡ f old.slots
+    → map (λ (r : Ring). r.slots) (set rings place new) ≡ set (map (λ (r : Ring). r.slots) rings) admin (f (ring_at (map (λ (r : Ring). r.slots) rings) admin))
+slots-changed rings admin place old new f here below is made =
+    slots-set rings place new (f (ring_at (map (λ (r : Ring). r.slots) rings) admin)) (made ∙ ap f (slots-read rings admin place old here below is))
+    ∙ ap (λ n. set (map (λ (r : Ring). r.slots) rings) n (f (ring_at (map (λ (r : Ring). r.slots) rings) admin))) here
+
+-- pools at a place, made from those that were there
+pub pools-changed : (pools : List PoolState) (admin place : ℕ) (old new : PoolState) (f : Queues → Queues) → place ≡ admin → admin < length pools → old ≡ get_or pools place old → new.kept ≡ f old.kept
+    → map (λ (p : PoolState). p.kept) (set pools place new) ≡ set (map (λ (p : PoolState). p.kept) pools) admin (f (pools_at (map (λ (p : PoolState). p.kept) pools) admin))
+pools-changed pools admin place old new f here below is made =
+    pools-set pools place new (f (pools_at (map (λ (p : PoolState). p.kept) pools) admin)) (made ∙ ap f (pools-read pools admin place old here below is))
+    ∙ ap (λ n. set (map (λ (p : PoolState). p.kept) pools) n (f (pools_at (map (λ (p : PoolState). p.kept) pools) admin))) here

@@ -1,10 +1,12 @@
 pub mod AdminLemmas
-pub mod NodeLemmas
 pub mod PlanLemmas
+pub mod RingLemmas
+pub mod StandsLemmas
+pub mod NodeLemmas
 pub mod EnteredLemmas
 pub mod KeptLemmas
 pub mod SoundLemmas
-pub mod RingLemmas
 pub mod OpeningLemmas
 pub mod FiringLemmas
 pub mod FireLemmas
+pub mod CountLemmas

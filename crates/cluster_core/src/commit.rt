@@ -5,7 +5,8 @@ ghost use Rattle.trigger_pool.specs.Pool.{no_logs};
 ghost use Rattle.cluster_history.specs.Pages.{unless_owner};
 ghost use Rattle.cluster_core.specs.declared.prepared.NodeChange.TheVariants as node;
 ghost use Rattle.cluster_core.specs.Kept.{kept_of};
-ghost use Rattle.cluster_core.specs.Commits.{node_changed, entered, HasRoomFor};
+ghost use Rattle.cluster_history.specs.declared.limits.TheConstants.{ADMINS};
+ghost use Rattle.cluster_core.specs.Commits.{node_changed, entered, pools_after, rings_with, rings_turned, ring_room, pool_room, HasRoomToPut, HasRoomFor};
 
 use super::cluster::Cluster;
 use super::pages::step_on;
@@ -13,7 +14,7 @@ use super::prepared::{Entering, NodeChange};
 use cluster_history::Scan;
 use job_values::{AdminNo, Seq};
 use std::alloc::Global;
-use time_ring::TimeRing;
+use time_ring::{Ticket, TimeRing};
 use trigger_pool::Pools;
 
 /// Puts logs into the pools of an admin.
@@ -24,6 +25,34 @@ fn enter(pools: &mut Pools, logs: &Seq<Entering>)
     for log in logs.as_slice() {
         pools.add(log.log, log.job);
     }
+}
+
+/// Puts logs into the pools of one of the admins.
+fn enter_at(pools: &mut Vec<Pools>, admin: AdminNo, logs: &Seq<Entering>)
+    requires admins { length pools.old.items ≡ ADMINS }
+    requires room { length logs.now ≤ pool_room pools.old.items admin }
+    ensures { map (λ pool. pool.kept) pools.new.items ≡ pools_after admin logs.now (map (λ pool. pool.kept) pools.old.items) }
+{
+    enter(&mut pools[admin.get() as usize], logs);
+}
+
+/// Puts a ticket, if there is one, into the ring of one of the admins.
+fn put_at(rings: &mut Vec<TimeRing>, admin: AdminNo, put: Option<Ticket>)
+    requires admins { length rings.old.items ≡ ADMINS }
+    requires room { HasRoomToPut (ring_room rings.old.items admin) put }
+    ensures { map (λ ring. ring.slots) rings.new.items ≡ rings_with admin put (map (λ ring. ring.slots) rings.old.items) }
+{
+    if let Some(ticket) = put {
+        rings[admin.get() as usize].put(ticket);
+    }
+}
+
+/// Turns the ring of one of the admins.
+fn turn_at(rings: &mut Vec<TimeRing>, admin: AdminNo, second: u64)
+    requires { length rings.old.items ≡ ADMINS }
+    ensures { map (λ ring. ring.slots) rings.new.items ≡ rings_turned admin second (map (λ ring. ring.slots) rings.old.items) }
+{
+    rings[admin.get() as usize].take(second);
 }
 
 /// A stop of its owner ends the scan.
@@ -101,19 +130,15 @@ impl Cluster {
             NodeChange::StopsAll => self.stop_all(),
             NodeChange::Begins(scan) => self.scan = Some(scan),
             NodeChange::Steps(admin, put, logs) => {
-                let place = admin.get() as usize;
                 step_on(&mut self.scan);
-                if let Some(ticket) = put {
-                    self.rings[place].put(ticket);
-                }
-                enter(&mut self.pools[place], &logs);
+                put_at(&mut self.rings, admin, put);
+                enter_at(&mut self.pools, admin, &logs);
             }
             NodeChange::Turns(admin, second, logs) => {
-                let place = admin.get() as usize;
-                self.rings[place].take(second);
-                enter(&mut self.pools[place], &logs);
+                turn_at(&mut self.rings, admin, second);
+                enter_at(&mut self.pools, admin, &logs);
             }
-            NodeChange::Fires(admin, logs) => enter(&mut self.pools[admin.get() as usize], &logs),
+            NodeChange::Fires(admin, logs) => enter_at(&mut self.pools, admin, &logs),
         }
     }
 }

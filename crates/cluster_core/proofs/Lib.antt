@@ -7,3 +7,4 @@ pub mod EnteredLemmas
 pub mod KeptLemmas
 pub mod SoundLemmas
 pub mod CountLemmas
+pub mod ShownLemmas

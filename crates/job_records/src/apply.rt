@@ -2,6 +2,7 @@
 ghost use Rattle.std.specs.Prelude.{◌≡◌, ℕ, ◌+◌, ◌-◌, ◌<◌, ◌≤◌, [], ◌∷◌, length, take, drop, vec_len, OnOk};
 ghost use Rattle.job_records.specs.Rules.{KeepsRules};
 ghost use Rattle.job_records.specs.Changes.{applied, applied_all, AreAllowed};
+ghost use Rattle.job_records.specs.Runs.{AreDrops};
 ghost use Rattle.job_records.specs.Room.{HasRoom, HasNoLessRoom, KeepsRoom};
 
 use super::change::Change;
@@ -9,6 +10,8 @@ use super::drops::Dropped;
 use super::edits::{drop_by_id, drop_by_key, put_by_id, put_by_key};
 use super::records::Records;
 use super::runs::{drop_run, first_drops};
+use job_values::Seq;
+use std::mem::replace;
 
 impl Records {
     /// Applies one change, for which there is room.
@@ -27,6 +30,61 @@ impl Records {
             Change::PutRegistry(row) => put_by_key(&mut self.registry, row),
             Change::DropRegistry { key, value } => drop_by_key(&mut self.registry, &key, &value),
             Change::LastIds(last) => self.last = last,
+        }
+    }
+
+    /// Applies drops of one list, in one pass.
+    fn apply_drops(&mut self, kind: Dropped, drops: &[Change])
+        requires drops { AreDrops kind drops.now }
+        requires allowed { AreAllowed self.old.kept drops.now }
+        ensures kept { self.new.kept ≡ applied_all self.old.kept drops.now }
+        ensures room { HasNoLessRoom self.old.room self.new.room }
+    {
+        match kind {
+            Dropped::Job => drop_run(&mut self.jobs, drops),
+            Dropped::Log => drop_run(&mut self.logs, drops),
+        }
+    }
+
+    /// Applies the change at a place, or the run of drops that begins there, and answers how many
+    /// changes that were. It takes the change out of the list.
+    fn apply_next(&mut self, changes: &mut Vec<Change>, at: usize) -> usize
+        requires within { at < vec_len changes.old }
+        requires allowed { AreAllowed self.old.kept (drop at changes.old.items) }
+        requires room { HasRoom self.old.room (drop at changes.old.items) }
+        ensures some { 1 ≤ result }
+        ensures within { at + result ≤ vec_len changes.old }
+        ensures kept { self.new.kept ≡ applied_all self.old.kept (take result (drop at changes.old.items)) }
+        ensures room { KeepsRoom self.old.room self.new.room (take result (drop at changes.old.items)) }
+        ensures rest { drop (at + result) changes.new.items ≡ drop (at + result) changes.old.items }
+        ensures length { vec_len changes.new ≡ vec_len changes.old }
+    {
+        let kind = match changes[at] {
+            Change::DropJob(_) => Dropped::Job,
+            _ => Dropped::Log,
+        };
+        let count = first_drops(kind, &changes[at..]);
+        if count > 1 {
+            self.apply_drops(kind, &changes[at..at + count]);
+            return count;
+        }
+        let taken = Change::LastIds(self.last);
+        let change = replace(&mut changes[at], taken);
+        self.apply_one(change);
+        1
+    }
+
+    /// Applies changes, for which `reserve` made room. Each must be allowed after those before it.
+    /// It moves the rows in and takes no memory.
+    pub fn apply(&mut self, changes: Seq<Change>)
+        requires room { HasRoom self.old.room changes }
+        requires allowed { AreAllowed self.old.kept changes }
+        ensures { self.new.kept ≡ applied_all self.old.kept changes }
+    {
+        let mut changes = changes.into_vec();
+        let mut at = 0;
+        while at < changes.len() {
+            at += self.apply_next(&mut changes, at);
         }
     }
 }

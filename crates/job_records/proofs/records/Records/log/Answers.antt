@@ -1,17 +1,5 @@
-use Rattle.std.proofs.Common.{◌≡◌, ◌∙◌, ap, sym, slice_get, List}
-use Rattle.job_records.specs.declared.log.Log.{Log}
-use Rattle.job_records.specs.Rows.{row_with}
-use Rattle.job_records.specs.Room.{RecordsState}
 use Rattle.job_records.proofs.RowLemmas.{rises-from_rising}
 use Rattle.job_records.proofs.records.Records.log.Goals as goal
 
-pub place_of-requires : goal.place_of-requires
-place_of-requires c = rw c.as_slice.ensures.value (rises-from_rising (λ row. row.id) 0 _ _ c.self.invariant.logs.rising)
-
-pub returns : goal.returns
-returns c =
-    c.get-2.ensures.lookup.1.2
-    ∙ ap (λ (rows : List Log). slice_get rows c.in_ok-place.place) (c.deref.ensures.value ∙ sym c.as_slice.ensures.value)
-    ∙ c.in_ok-place.ensures.2
-    ∙ ap (λ (rows : List Log). row_with (λ row. row.id) c.args.id rows) c.as_slice.ensures.value
-    ∙ ap (λ (state : RecordsState). row_with (λ row. row.id) c.args.id state.kept.logs) c.self.view_is
+pub row_at-requires : goal.row_at-requires
+row_at-requires c = rw c.as_slice.ensures.value (rises-from_rising _ 0 _ _ c.self.invariant.logs.rising)

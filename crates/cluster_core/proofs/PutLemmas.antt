@@ -1,5 +1,5 @@
 -- Rows that are put among rows in order of their ids, and what the rules say of them.
-use Rattle.std.proofs.Common.{◌≡◌, ℕ, ◌+◌, ◌<◌, ◌≤◌, List, [], ◌∷◌, ◌++◌, Bool, true, false, cond, eqb, Option, Some, None, length, map, refl, sym, ap, ◌∙◌, subst, arith}
+use Rattle.std.proofs.Common.{◌≡◌, ℕ, ◌+◌, ◌<◌, ◌≤◌, List, [], ◌∷◌, ◌++◌, Bool, true, false, cond, eqb, Option, Some, None, is_some, length, map, refl, sym, ap, ◌∙◌, subst, arith}
 use Rattle.std.specs.declared.cmp.Ordering.{Ordering}
 use Rattle.std.specs.declared.cmp.Ordering.TheVariants.{Less, Equal, Greater}
 use Rattle.std.specs.List.{find, All}
@@ -10,6 +10,8 @@ use Rattle.std.proofs.lemmas.List.Elements.{All-nil, All-cons, All-head, All-tai
 use Rattle.job_records.specs.Rows.{row_with, changed, RisesFrom, IsRising}
 use Rattle.job_records.specs.Changes.{put_row}
 use Rattle.job_records.proofs.OrderLemmas.{less-nat, greater-nat}
+use Rattle.cluster_history.proofs.RowIds.{rising-mapped}
+use Rattle.std.proofs.lemmas.List.{length-map}
 use Rattle.job_records.proofs.RowLemmas.{changed-none, rises-from_rising, rising-ends}
 
 equal-nat : (m n : ℕ) → eqb m n ≡ true → nat_cmp m n ≡ Equal
@@ -85,3 +87,43 @@ pub put-changed : {R : Type 0} (id_of : R → ℕ) (change : R → R) (low : ℕ
 put-changed id_of change low row new [] rises found is = (cc)
 put-changed id_of change low row new (first ∷ rows) rises found is =
     put-changed_by id_of change low first row new rows (eqb (id_of first) (id_of new)) refl is rises.1 (λ there. put-changed id_of change (id_of first) row new rows rises.1 there is) found
+
+-- what holds of each row and of the one that is put holds of each row then
+All-put_by : {R : Type 0} (P : R → Type 0) (new first : R) (rows put : List R) (o : Ordering) → P first → All P rows → P new → All P put → All P (match_ordering o (first ∷ put) (new ∷ rows) (new ∷ first ∷ rows))
+All-put_by P new first rows put Less here rest it later = All-cons P first put here later
+All-put_by P new first rows put Equal here rest it later = All-cons P new rows it rest
+All-put_by P new first rows put Greater here rest it later = All-cons P new (first ∷ rows) it (All-cons P first rows here rest)
+
+pub All-put : {R : Type 0} (P : R → Type 0) (id_of : R → ℕ) (new : R) (rows : List R) → All P rows → P new → All P (put_row id_of new rows)
+All-put P id_of new [] all it = All-cons P new [] it (All-nil P)
+All-put P id_of new (first ∷ rows) all it =
+    All-put_by P new first rows (put_row id_of new rows) (nat_cmp (id_of first) (id_of new)) (All-head P first rows all) (All-tail P first rows all) it (All-put P id_of new rows (All-tail P first rows all) it)
+
+-- an id that was found is found when another row was put
+found-put_by : {R : Type 0} (id_of : R → ℕ) (id : ℕ) (new first : R) (rows put : List R) (o : Ordering) (b : Bool) → nat_cmp (id_of first) (id_of new) ≡ o → eqb (id_of new) id ≡ b → (is_some (row_with id_of id rows) ≡ true → is_some (row_with id_of id put) ≡ true)
+    → is_some (row_with id_of id (first ∷ rows)) ≡ true → is_some (row_with id_of id (match_ordering o (first ∷ put) (new ∷ rows) (new ∷ first ∷ rows))) ≡ true
+found-put_by id_of id new first rows put Less b order test later found = grind arith
+found-put_by id_of id new first rows put Equal true order test later found = grind arith
+found-put_by id_of id new first rows put Equal false order test later found = grind (arith, nat_tests)
+found-put_by id_of id new first rows put Greater b order test later found = grind arith
+
+pub found-put : {R : Type 0} (id_of : R → ℕ) (id : ℕ) (new : R) (rows : List R) → is_some (row_with id_of id rows) ≡ true → is_some (row_with id_of id (put_row id_of new rows)) ≡ true
+found-put id_of id new [] found = (cc)
+found-put id_of id new (first ∷ rows) found =
+    found-put_by id_of id new first rows (put_row id_of new rows) (nat_cmp (id_of first) (id_of new)) (eqb (id_of new) id) refl refl (found-put id_of id new rows) found
+
+keeps-id : {R : Type 0} (id_of : R → ℕ) (new row : R) (b : Bool) → eqb (id_of row) (id_of new) ≡ b → id_of (cond b new row) ≡ id_of row
+keeps-id id_of new row true test = grind (arith, nat_tests)
+keeps-id id_of new row false test = refl
+
+-- a row that takes the place of the one with its id leaves the ids as they are
+pub rising-put : {R : Type 0} (id_of : R → ℕ) (low last : ℕ) (row new : R) (rows : List R) → IsRising id_of low rows last → row_with id_of (id_of new) rows ≡ Some row → IsRising id_of low (put_row id_of new rows) last
+rising-put id_of low last row new rows rising found =
+    subst (λ xs. IsRising id_of low xs last) (sym (put-changed id_of (λ _. new) low row new rows (rises-from_rising id_of low last rows rising) found refl))
+    (rising-mapped id_of (λ r. cond (eqb (id_of r) (id_of new)) new r) (λ r. keeps-id id_of new r (eqb (id_of r) (id_of new)) refl) low last rows rising)
+
+-- and their number
+pub length-put : {R : Type 0} (id_of : R → ℕ) (low last : ℕ) (row new : R) (rows : List R) → IsRising id_of low rows last → row_with id_of (id_of new) rows ≡ Some row → length (put_row id_of new rows) ≡ length rows
+length-put id_of low last row new rows rising found =
+    ap length (put-changed id_of (λ _. new) low row new rows (rises-from_rising id_of low last rows rising) found refl)
+    ∙ length-map rows (λ r. cond (eqb (id_of r) (id_of new)) new r)

@@ -1,0 +1,1 @@
+use Rattle.cluster_core.proofs.PutLemmas.{put-changed}

@@ -1,1 +1,6 @@
+pub mod PlanLemmas
+pub mod AdminLemmas
 pub mod PutLemmas
+pub mod KeptRules
+pub mod RowPlans
+pub mod EditLemmas

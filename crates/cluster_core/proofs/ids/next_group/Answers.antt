@@ -1,1 +1,1 @@
-use Rattle.cluster_core.proofs.PutLemmas.{put-changed}
+use Rattle.cluster_core.proofs.EditLemmas.{jobs-put}

@@ -1,0 +1,117 @@
+-- Starts, stops and updates of jobs: the row of a present job is replaced.
+use Rattle.std.proofs.Common.{◌≡◌, ℕ, ◌+◌, ◌<◌, List, [], ◌∷◌, Bool, true, false, cond, eqb, nat_lt, Option, Some, None, Ok, is_some, map, refl, sym, ap, ◌∙◌, subst, arith}
+use Rattle.std.specs.Prelude.{ℤ, Result}
+use Rattle.std.proofs.lemmas.Bool.Decides.{nat_tests}
+use Rattle.job_values.specs.declared.job.JobSpec.{JobSpec}
+use Rattle.job_values.specs.declared.job.ScheduleFault.{ScheduleFault}
+use Rattle.job_values.specs.declared.cluster.ClusterEvent.{ClusterEvent}
+use Rattle.job_values.specs.declared.cluster.ClusterEvent.TheVariants.{UpdateJob, StartJob, StopJob}
+use Rattle.job_values.specs.declared.cluster.ClusterRefusal.{ClusterRefusal}
+use Rattle.job_values.specs.declared.cluster.ClusterReply.{ClusterReply}
+use Rattle.job_values.specs.declared.cluster.ClusterReply.TheVariants.{Running, Updated, Halted, Refused}
+use Rattle.cron_schedule.specs.declared.plan.Plan.{Plan}
+use Rattle.cron_schedule.specs.Parse.{parsed}
+use Rattle.job_records.specs.declared.change.Change.TheVariants as change
+use Rattle.job_records.specs.declared.job.Job.{Job}
+use Rattle.job_records.specs.Rows.{row_with, changed, RisesFrom}
+use Rattle.job_records.specs.Rules.{KeepsRules}
+use Rattle.job_records.specs.Tables.{Tables}
+use Rattle.job_records.specs.Changes.{put_row, applied_all}
+use Rattle.job_records.proofs.RowLemmas.{rises-from_rising}
+use Rattle.cluster_history.specs.declared.settings.Settings.{Settings}
+use Rattle.cluster_history.specs.History.{History, After, accepted, settings_of}
+use Rattle.cluster_history.specs.Groups.{groups_of, group_with}
+use Rattle.cluster_history.specs.Looks.{job_with}
+use Rattle.cluster_history.specs.Jobs.{jobs_of, ids_of, row_of, row_by, last_job, spec_of, edition_of, next_of, plan_of, plan_said, first_time, updated_time}
+use Rattle.cluster_history.specs.Replies.{reply_of, running_reply, halt_reply, update_reply, refused}
+use Rattle.cluster_history.proofs.RowIds.{jobs_rise}
+use Rattle.cluster_core.specs.declared.prepared.NodeChange.TheVariants as node
+use Rattle.cluster_core.specs.Kept.{Kept}
+use Rattle.cluster_core.specs.Plans.{IsPlanned}
+use Rattle.cluster_core.specs.Stands.{Stands, records_of}
+use Rattle.cluster_core.specs.Edits.{updated_row, turned_row}
+use Rattle.cluster_core.proofs.PlanLemmas.{planned-refused}
+use Rattle.cluster_core.proofs.PutLemmas.{put-changed, found-all, found-id}
+use Rattle.cluster_core.proofs.KeptRules.{rules-put_job}
+use Rattle.cluster_core.proofs.RowPlans.{planned-rows}
+
+pub same-id : (id : ℕ) → eqb id id ≡ true
+same-id id = grind (arith, nat_tests)
+
+-- the plan of a spec whose text is a schedule
+pub plan-parsed : (spec : JobSpec) (plan : Plan) → parsed spec.kind spec.schedule ≡ Ok plan → plan_of spec ≡ plan
+unfolding plan_of
+plan-parsed spec plan e = ap plan_said e
+
+-- the row that is found by an id is the row of this id
+row-found_by : (h : History) (job j : ℕ) (rest : Option Job) (row : Job) (b : Bool) → eqb j job ≡ b → (rest ≡ Some row → row ≡ row_of h job) → cond b (Some (row_of h j)) rest ≡ Some row → row ≡ row_of h job
+row-found_by h job j rest row true test later e =
+    let same : j ≡ job = grind (arith, nat_tests) in
+    let here : row_of h j ≡ row = (cc) in
+    sym here ∙ ap (row_of h) same
+row-found_by h job j rest row false test later e = later e
+
+row-found_in : (h : History) (job : ℕ) (ids : List ℕ) (row : Job) → job_with job (map (row_of h) ids) ≡ Some row → row ≡ row_of h job
+row-found_in h job [] row e = (cc)
+row-found_in h job (j ∷ ids) row e = row-found_by h job j (job_with job (map (row_of h) ids)) row (eqb j job) refl (row-found_in h job ids row) e
+
+pub row-found : (h : History) (job : ℕ) (row : Job) → job_with job (jobs_of h) ≡ Some row → row ≡ row_of h job
+row-found h job row e = row-found_in h job (ids_of h) row e
+
+-- rows that differ at one id
+row-put : (old new : ℕ → Job) (job : ℕ) (row : Job) (j : ℕ) (b : Bool) → eqb j job ≡ b → row ≡ new job → (eqb j job ≡ false → new j ≡ old j) → cond b row (old j) ≡ new j
+row-put old new job row j true test here other =
+    let same : j ≡ job = grind (arith, nat_tests) in
+    here ∙ ap new (sym same)
+row-put old new job row j false test here other = sym (other test)
+
+rows-put : (old new : ℕ → Job) (job : ℕ) (row : Job) → ((j : ℕ) → (old j).id ≡ j) → row ≡ new job → ((j : ℕ) → eqb j job ≡ false → new j ≡ old j) → (ids : List ℕ) → changed (λ x. x.id) job (λ _. row) (map old ids) ≡ map new ids
+rows-put old new job row keeps here other [] = refl
+rows-put old new job row keeps here other (j ∷ ids) =
+    ap (λ n. cond (eqb n job) row (old j) ∷ changed (λ (x : Job). x.id) job (λ _. row) (map old ids)) (keeps j)
+    ∙ ap (λ x. x ∷ changed (λ (x : Job). x.id) job (λ _. row) (map old ids)) (row-put old new job row j (eqb j job) refl here (other j))
+    ∙ ap (λ xs. new j ∷ xs) (rows-put old new job row keeps here other ids)
+
+-- a row that is put in place of that of a present job: the other jobs are as they were
+pub jobs-put : (h : History) (new_of : ℕ → Job) (job : ℕ) (row new : Job) → RisesFrom (λ x. x.id) 0 (jobs_of h) → job_with job (jobs_of h) ≡ Some row → new.id ≡ job → new ≡ new_of job → ((j : ℕ) → eqb j job ≡ false → new_of j ≡ row_of h j)
+    → put_row (λ x. x.id) new (jobs_of h) ≡ map new_of (ids_of h)
+jobs-put h new_of job row new rises found id here other =
+    put-changed (λ (x : Job). x.id) (λ _. new) 0 row new (jobs_of h) rises (subst (λ n. job_with n (jobs_of h) ≡ Some row) (sym id) found) refl
+    ∙ ap (λ n. changed (λ (x : Job). x.id) n (λ _. new) (jobs_of h)) id
+    ∙ rows-put (row_of h) new_of job new (λ j. refl) here other (ids_of h)
+
+-- the rows and the last ids with other jobs
+abbrev with_jobs : History → List Job → Tables
+with_jobs h jobs = record (records_of h) { jobs = jobs }
+
+-- a job's row, by whether it is the one that is started
+abbrev row_started : History → ℕ → Bool → ℕ → Job
+row_started h at b j =
+    row_by (spec_of h) (λ x. cond b (edition_of h x + 1) (edition_of h x)) (λ x. cond b (first_time (settings_of h).offset (plan_of (spec_of h x)) at) (next_of h x)) j
+
+-- or stopped
+abbrev row_stopped : History → Bool → ℕ → Job
+row_stopped h b j = row_by (spec_of h) (λ x. cond b (edition_of h x + 1) (edition_of h x)) (λ x. cond b None (next_of h x)) j
+
+-- or updated
+abbrev row_updated : History → ℕ → JobSpec → Bool → ℕ → Job
+row_updated h at spec b j =
+    row_by (λ x. cond b spec (spec_of h x)) (λ x. cond b (edition_of h x + 1) (edition_of h x)) (λ x. cond b (updated_time (settings_of h).offset (plan_of spec) at (next_of h x)) (next_of h x)) j
+
+started-rows : (h : History) (at job : ℕ) (row new : Job) (r : ClusterReply) → RisesFrom (λ x. x.id) 0 (jobs_of h) → job_with job (jobs_of h) ≡ Some row → row ≡ row_of h job
+    → new ≡ turned_row (row.edition + 1) (first_time (settings_of h).offset row.schedule at) row → put_row (λ x. x.id) new (jobs_of h) ≡ jobs_of (After h (StartJob at job) r)
+started-rows h at job row new r rises found is made =
+    let here : new ≡ row_started h at true job = made ∙ ap (λ (x : Job). turned_row (x.edition + 1) (first_time (settings_of h).offset x.schedule at) x) is in
+    jobs-put h (row_of (After h (StartJob at job) r)) job row new rises found (ap (λ (x : Job). x.id) here) (here ∙ sym (ap (λ b. row_started h at b job) (same-id job))) (λ j other. ap (λ b. row_started h at b j) other)
+
+stopped-rows : (h : History) (job : ℕ) (row new : Job) (r : ClusterReply) → RisesFrom (λ x. x.id) 0 (jobs_of h) → job_with job (jobs_of h) ≡ Some row → row ≡ row_of h job
+    → new ≡ turned_row (row.edition + 1) None row → put_row (λ x. x.id) new (jobs_of h) ≡ jobs_of (After h (StopJob job) r)
+stopped-rows h job row new r rises found is made =
+    let here : new ≡ row_stopped h true job = made ∙ ap (λ (x : Job). turned_row (x.edition + 1) None x) is in
+    jobs-put h (row_of (After h (StopJob job) r)) job row new rises found (ap (λ (x : Job). x.id) here) (here ∙ sym (ap (λ b. row_stopped h b job) (same-id job))) (λ j other. ap (λ b. row_stopped h b j) other)
+
+updated-rows : (h : History) (at job : ℕ) (spec : JobSpec) (row new : Job) (r : ClusterReply) → RisesFrom (λ x. x.id) 0 (jobs_of h) → job_with job (jobs_of h) ≡ Some row → row ≡ row_of h job
+    → new ≡ updated_row spec (plan_of spec) (row.edition + 1) (updated_time (settings_of h).offset (plan_of spec) at row.next) row → put_row (λ x. x.id) new (jobs_of h) ≡ jobs_of (After h (UpdateJob at job spec) r)
+updated-rows h at job spec row new r rises found is made =
+    let here : new ≡ row_updated h at spec true job = made ∙ ap (λ (x : Job). updated_row spec (plan_of spec) (x.edition + 1) (updated_time (settings_of h).offset (plan_of spec) at x.next) x) is in
+    jobs-put h (row_of (After h (UpdateJob at job spec) r)) job row new rises found (ap (λ (x : Job). x.id) here) (here ∙ sym (ap (λ b. row_updated h at spec b job) (same-id job))) (λ j other. ap (λ b. row_updated h at spec b j) other)

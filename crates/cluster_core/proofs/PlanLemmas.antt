@@ -1,0 +1,40 @@
+-- Plans that change nothing, and plans of changes.
+use Rattle.std.proofs.Common.{◌≡◌, [], false, sym, subst}
+use Rattle.std.specs.Prelude.{Bool}
+use Rattle.job_values.specs.declared.cluster.ClusterEvent.{ClusterEvent}
+use Rattle.job_values.specs.declared.cluster.ClusterReply.{ClusterReply}
+use Rattle.job_values.specs.declared.cluster.ClusterReply.TheVariants.{Refused}
+use Rattle.job_values.specs.declared.cluster.ClusterRefusal.{ClusterRefusal}
+use Rattle.job_records.specs.Changes.{AreAllowed}
+use Rattle.cluster_history.specs.History.{History, After, accepted, is_refusal, with_entry}
+use Rattle.cluster_history.specs.Replies.{reply_of, refused}
+use Rattle.cluster_core.specs.declared.prepared.NodeChange.TheVariants as node
+use Rattle.cluster_core.specs.declared.prepared.Prepared.{Prepared}
+use Rattle.cluster_core.specs.Kept.{Kept}
+use Rattle.cluster_core.specs.Commits.{committed}
+use Rattle.cluster_core.specs.Plans.{IsPlanned}
+use Rattle.cluster_core.specs.Stands.{Stands}
+
+-- a refusal changes nothing
+pub planned-refused : (kept : Kept) (e : ClusterEvent) (why : ClusterRefusal) → ((h : History) → Stands kept (accepted h) → reply_of h e ≡ refused why) → IsPlanned kept e (record { reply = Refused why; changes = []; node = node.Nothing })
+planned-refused kept e why replies = record { allowed = tt; answers = λ h s. record { reply = sym (replies h s); stands = s } }
+
+-- changes that are allowed answer an event, where the reply is the defined one, and what is kept then stands for the accepted entries with this one
+pub planned : (kept : Kept) (e : ClusterEvent) (prepared : Prepared) → AreAllowed kept.tables prepared.changes → is_refusal prepared.reply ≡ false
+    → ((h : History) → Stands kept (accepted h) → reply_of h e ≡ prepared.reply)
+    → ((h : History) → Stands kept h → Stands (committed kept prepared) (After h e prepared.reply))
+    → IsPlanned kept e prepared
+planned kept e prepared allowed accepts replies stands = record {
+  allowed = allowed;
+  answers = λ h s. record {
+    reply = sym (replies h s);
+    stands = let P : Bool → Type 0 = λ b. Stands (committed kept prepared) (with_entry b (accepted h) e prepared.reply) in subst P (sym accepts) (stands (accepted h) s);
+  };
+}
+
+-- an answer that changes nothing
+pub planned-answered : (kept : Kept) (e : ClusterEvent) (r : ClusterReply) → is_refusal r ≡ false
+    → ((h : History) → Stands kept (accepted h) → reply_of h e ≡ r)
+    → ((h : History) → Stands kept h → Stands kept (After h e r))
+    → IsPlanned kept e (record { reply = r; changes = []; node = node.Nothing })
+planned-answered kept e r accepts replies stands = planned kept e (record { reply = r; changes = []; node = node.Nothing }) tt accepts replies stands

@@ -1,12 +1,14 @@
 -- Starts, stops and updates of jobs: the row of a present job is replaced.
 use Rattle.std.proofs.Common.{◌≡◌, ℕ, ◌+◌, ◌<◌, List, [], ◌∷◌, Bool, true, false, cond, eqb, nat_lt, Option, Some, None, Ok, is_some, map, refl, sym, ap, ◌∙◌, subst, arith}
-use Rattle.std.specs.Prelude.{ℤ, Result}
+use Rattle.std.specs.Prelude.{ℤ, Result, if◌then◌else◌}
 use Rattle.std.proofs.lemmas.Bool.Decides.{nat_tests}
 use Rattle.job_values.specs.declared.job.JobSpec.{JobSpec}
 use Rattle.job_values.specs.declared.job.ScheduleFault.{ScheduleFault}
 use Rattle.job_values.specs.declared.cluster.ClusterEvent.{ClusterEvent}
 use Rattle.job_values.specs.declared.cluster.ClusterEvent.TheVariants.{UpdateJob, StartJob, StopJob}
 use Rattle.job_values.specs.declared.cluster.ClusterRefusal.{ClusterRefusal}
+use Rattle.job_values.specs.declared.cluster.ClusterRefusal.TheVariants.{IdsSpent}
+use Rattle.cluster_history.specs.declared.limits.TheConstants.{LAST_EDITION}
 use Rattle.job_values.specs.declared.cluster.ClusterReply.{ClusterReply}
 use Rattle.job_values.specs.declared.cluster.ClusterReply.TheVariants.{Running, Updated, Halted, Refused}
 use Rattle.cron_schedule.specs.declared.plan.Plan.{Plan}
@@ -14,16 +16,16 @@ use Rattle.cron_schedule.specs.Parse.{parsed}
 use Rattle.job_records.specs.declared.change.Change.TheVariants as change
 use Rattle.job_records.specs.declared.job.Job.{Job}
 use Rattle.job_records.specs.Rows.{row_with, changed, RisesFrom}
-use Rattle.job_records.specs.Rules.{KeepsRules}
+use Rattle.job_records.specs.Rules.{KeepsRules, RunsByNext, HasItsSchedule, HasGroup}
 use Rattle.job_records.specs.Tables.{Tables}
-use Rattle.job_records.specs.Changes.{put_row, applied_all}
+use Rattle.job_records.specs.Changes.{put_row, applied_all, AreAllowed}
 use Rattle.job_records.proofs.RowLemmas.{rises-from_rising}
 use Rattle.cluster_history.specs.declared.settings.Settings.{Settings}
 use Rattle.cluster_history.specs.History.{History, After, accepted, settings_of}
 use Rattle.cluster_history.specs.Groups.{groups_of, group_with}
 use Rattle.cluster_history.specs.Looks.{job_with}
 use Rattle.cluster_history.specs.Jobs.{jobs_of, ids_of, row_of, row_by, last_job, spec_of, edition_of, next_of, plan_of, plan_said, first_time, updated_time}
-use Rattle.cluster_history.specs.Replies.{reply_of, running_reply, halt_reply, update_reply, refused}
+use Rattle.cluster_history.specs.Replies.{reply_of, running_reply, edition_reply, halt_reply, update_reply, spec_reply, plan_reply, again_reply, refused}
 use Rattle.cluster_history.proofs.RowIds.{jobs_rise}
 use Rattle.cluster_core.specs.declared.prepared.NodeChange.TheVariants as node
 use Rattle.cluster_core.specs.Kept.{Kept}
@@ -115,3 +117,57 @@ updated-rows : (h : History) (at job : ℕ) (spec : JobSpec) (row new : Job) (r 
 updated-rows h at job spec row new r rises found is made =
     let here : new ≡ row_updated h at spec true job = made ∙ ap (λ (x : Job). updated_row spec (plan_of spec) (x.edition + 1) (updated_time (settings_of h).offset (plan_of spec) at x.next) x) is in
     jobs-put h (row_of (After h (UpdateJob at job spec) r)) job row new rises found (ap (λ (x : Job). x.id) here) (here ∙ sym (ap (λ b. row_updated h at spec b job) (same-id job))) (λ j other. ap (λ b. row_updated h at spec b j) other)
+
+-- a row that takes the place of a present job's is allowed, with a schedule as its spec says and a group that is there
+edit-allowed : (t : Tables) (job : ℕ) (row new : Job) (spec : JobSpec) (plan : Plan) (edition : ℕ) (next : Option ℕ) → KeepsRules t → job_with job t.jobs ≡ Some row → new ≡ updated_row spec plan edition next row
+    → parsed spec.kind spec.schedule ≡ Ok plan → is_some (group_with spec.group t.groups) ≡ true → AreAllowed t (change.PutJob new ∷ [])
+edit-allowed t job row new spec plan edition next rules found made said group =
+    let id : new.id ≡ job = ap (λ (x : Job). x.id) made ∙ found-id (λ (x : Job). x.id) job t.jobs row found in
+    (
+      rules-put_job t row new rules (subst (λ n. job_with n t.jobs ≡ Some row) (sym id) found) (subst RunsByNext (sym made) refl) (subst HasItsSchedule (sym made) said) (subst (HasGroup t.groups) (sym made) group),
+      tt,
+    )
+
+-- a row in another edition, with another next time
+turn-allowed : (t : Tables) (job : ℕ) (row new : Job) (edition : ℕ) (next : Option ℕ) → KeepsRules t → job_with job t.jobs ≡ Some row → new ≡ turned_row edition next row → AreAllowed t (change.PutJob new ∷ [])
+turn-allowed t job row new edition next rules found made =
+    edit-allowed t job row new row.spec row.schedule edition next rules found made (found-all HasItsSchedule (λ (x : Job). x.id) job t.jobs row rules.jobs.schedules found) (found-all (HasGroup t.groups) (λ (x : Job). x.id) job t.jobs row rules.jobs.groups_exist found)
+
+-- an edition that can be raised
+raised : (r : ClusterReply) (edition : ℕ) → edition < LAST_EDITION → (if nat_lt edition LAST_EDITION then r else refused IdsSpent) ≡ r
+raised r edition below =
+    let test : nat_lt edition LAST_EDITION ≡ true = let lt : edition < 18446744073709551615 = below in grind (arith, nat_tests) in
+    ap (λ b. cond b r (refused IdsSpent)) test
+
+start-reply : (kept : Kept) (h : History) (at job : ℕ) → Stands kept (accepted h) → reply_of h (StartJob at job) ≡ running_reply kept.settings.offset at (job_with job kept.tables.jobs)
+start-reply kept h at job s =
+    sym (ap (λ (t : Tables). running_reply kept.settings.offset at (job_with job t.jobs)) s.tables
+    ∙ ap (λ (x : Settings). running_reply x.offset at (job_with job (jobs_of (accepted h)))) s.settings)
+
+-- the row of a present job, in a history that is stood for
+row-stands : (kept : Kept) (h : History) (job : ℕ) (row : Job) → job_with job kept.tables.jobs ≡ Some row → Stands kept h → job_with job (jobs_of h) ≡ Some row
+row-stands kept h job row found s = subst (λ (t : Tables). job_with job t.jobs ≡ Some row) s.tables found
+
+rows-rise : (kept : Kept) (h : History) → Stands kept h → RisesFrom (λ x. x.id) 0 (jobs_of h)
+rows-rise kept h s = rises-from_rising (λ (x : Job). x.id) 0 (last_job h) (jobs_of h) (jobs_rise h s.opens)
+
+-- a start is refused
+pub start-refused : (kept : Kept) (at job : ℕ) (why : ClusterRefusal) → running_reply kept.settings.offset at (job_with job kept.tables.jobs) ≡ refused why → IsPlanned kept (StartJob at job) (record { reply = Refused why; changes = []; node = node.Nothing })
+start-refused kept at job why says = planned-refused kept (StartJob at job) why (λ h s. start-reply kept h at job s ∙ says)
+
+-- a job is started
+pub start-planned : (kept : Kept) (at job edition next : ℕ) (row new : Job) → KeepsRules kept.tables → job_with job kept.tables.jobs ≡ Some row → first_time kept.settings.offset row.schedule at ≡ Some next → row.edition < LAST_EDITION → edition ≡ row.edition + 1 → new ≡ turned_row edition (Some next) row
+    → IsPlanned kept (StartJob at job) (record { reply = Running edition next; changes = change.PutJob new ∷ []; node = node.Nothing })
+start-planned kept at job edition next row new rules found first below raises made =
+    planned-rows kept (StartJob at job) (Running edition next) (change.PutJob new ∷ []) (turn-allowed kept.tables job row new edition (Some next) rules found made) refl
+    (λ h. record { running = refl; scan = refl; rings = refl; pools = refl })
+    (λ h s. start-reply kept h at job s
+      ∙ ap (running_reply kept.settings.offset at) found
+      ∙ ap (edition_reply row.edition) first
+      ∙ raised (Running (row.edition + 1) next) row.edition below
+      ∙ ap (λ n. Running n next) (sym raises))
+    (λ h s.
+    let there = row-stands kept h job row found s in
+    let at_once : Some next ≡ first_time (settings_of h).offset row.schedule at = sym first ∙ ap (λ (x : Settings). first_time x.offset row.schedule at) s.settings in
+    let is : new ≡ turned_row (row.edition + 1) (first_time (settings_of h).offset row.schedule at) row = made ∙ ap (λ n. turned_row n (Some next) row) raises ∙ ap (λ (o : Option ℕ). turned_row (row.edition + 1) o row) at_once in
+    ap (with_jobs h) (started-rows h at job row new (Running edition next) (rows-rise kept h s) there (row-found h job row there) is))

@@ -171,3 +171,78 @@ start-planned kept at job edition next row new rules found first below raises ma
     let at_once : Some next ≡ first_time (settings_of h).offset row.schedule at = sym first ∙ ap (λ (x : Settings). first_time x.offset row.schedule at) s.settings in
     let is : new ≡ turned_row (row.edition + 1) (first_time (settings_of h).offset row.schedule at) row = made ∙ ap (λ n. turned_row n (Some next) row) raises ∙ ap (λ (o : Option ℕ). turned_row (row.edition + 1) o row) at_once in
     ap (with_jobs h) (started-rows h at job row new (Running edition next) (rows-rise kept h s) there (row-found h job row there) is))
+
+stop-reply : (kept : Kept) (h : History) (job : ℕ) → Stands kept (accepted h) → reply_of h (StopJob job) ≡ halt_reply (job_with job kept.tables.jobs)
+stop-reply kept h job s = sym (ap (λ (t : Tables). halt_reply (job_with job t.jobs)) s.tables)
+
+-- a stop is refused
+pub stop-refused : (kept : Kept) (job : ℕ) (why : ClusterRefusal) → halt_reply (job_with job kept.tables.jobs) ≡ refused why → IsPlanned kept (StopJob job) (record { reply = Refused why; changes = []; node = node.Nothing })
+stop-refused kept job why says = planned-refused kept (StopJob job) why (λ h s. stop-reply kept h job s ∙ says)
+
+-- a job is stopped
+pub stop-planned : (kept : Kept) (job edition : ℕ) (row new : Job) → KeepsRules kept.tables → job_with job kept.tables.jobs ≡ Some row → row.edition < LAST_EDITION → edition ≡ row.edition + 1 → new ≡ turned_row edition None row
+    → IsPlanned kept (StopJob job) (record { reply = Halted edition; changes = change.PutJob new ∷ []; node = node.Nothing })
+stop-planned kept job edition row new rules found below raises made =
+    planned-rows kept (StopJob job) (Halted edition) (change.PutJob new ∷ []) (turn-allowed kept.tables job row new edition None rules found made) refl
+    (λ h. record { running = refl; scan = refl; rings = refl; pools = refl })
+    (λ h s. stop-reply kept h job s ∙ ap halt_reply found ∙ raised (Halted (row.edition + 1)) row.edition below ∙ ap (λ n. Halted n) (sym raises))
+    (λ h s.
+    let there = row-stands kept h job row found s in
+    ap (with_jobs h) (stopped-rows h job row new (Halted edition) (rows-rise kept h s) there (row-found h job row there) (made ∙ ap (λ n. turned_row n None row) raises)))
+
+-- the reply to an update, by what is kept
+abbrev update_kept : Kept → ℕ → ℕ → JobSpec → ClusterReply
+update_kept kept at job spec =
+    update_reply (is_some (group_with spec.group kept.tables.groups)) kept.settings.offset at (parsed spec.kind spec.schedule) (job_with job kept.tables.jobs)
+
+update-reply : (kept : Kept) (h : History) (at job : ℕ) (spec : JobSpec) → Stands kept (accepted h) → reply_of h (UpdateJob at job spec) ≡ update_kept kept at job spec
+update-reply kept h at job spec s =
+    sym (ap (λ (t : Tables). update_reply (is_some (group_with spec.group t.groups)) kept.settings.offset at (parsed spec.kind spec.schedule) (job_with job t.jobs)) s.tables
+    ∙ ap (λ (x : Settings). update_reply (is_some (group_with spec.group (groups_of (accepted h)))) x.offset at (parsed spec.kind spec.schedule) (job_with job (jobs_of (accepted h)))) s.settings)
+
+-- an update is refused
+pub update-refused : (kept : Kept) (at job : ℕ) (spec : JobSpec) (why : ClusterRefusal) → update_kept kept at job spec ≡ refused why → IsPlanned kept (UpdateJob at job spec) (record { reply = Refused why; changes = []; node = node.Nothing })
+update-refused kept at job spec why says = planned-refused kept (UpdateJob at job spec) why (λ h s. update-reply kept h at job spec s ∙ says)
+
+updated-is : (edition e : ℕ) (o n : Option ℕ) (b : Bool) → cond b (Updated (edition + 1) o) (refused IdsSpent) ≡ Updated e n → (e ≡ edition + 1) × (n ≡ o)
+updated-is edition e o n true says = ((cc), (cc))
+updated-is edition e o n false says = absurd (cc)
+
+-- what an update that is not refused says
+again-is : (edition e : ℕ) (running : Bool) (o n : Option ℕ) → again_reply edition running o ≡ Updated e n → (e ≡ edition + 1) × (n ≡ o)
+again-is edition e true None n says = absurd (cc)
+again-is edition e true (Some next) n says = updated-is edition e (Some next) n (nat_lt edition LAST_EDITION) says
+again-is edition e false o n says = updated-is edition e o n (nat_lt edition LAST_EDITION) says
+
+-- the reply to the update of a present job with a schedule and a group that is there
+update-found : (kept : Kept) (at job : ℕ) (spec : JobSpec) (row : Job) (plan : Plan) → job_with job kept.tables.jobs ≡ Some row → is_some (group_with spec.group kept.tables.groups) ≡ true → parsed spec.kind spec.schedule ≡ Ok plan
+    → update_kept kept at job spec ≡ again_reply row.edition (is_some row.next) (updated_time kept.settings.offset plan at row.next)
+update-found kept at job spec row plan found group said =
+    ap (update_reply (is_some (group_with spec.group kept.tables.groups)) kept.settings.offset at (parsed spec.kind spec.schedule)) found
+    ∙ ap (λ b. spec_reply b kept.settings.offset at row (parsed spec.kind spec.schedule)) group
+    ∙ ap (plan_reply kept.settings.offset at row) said
+
+-- an update without a next time, or in the greatest edition, is refused
+pub update-spent : (kept : Kept) (at job : ℕ) (spec : JobSpec) (row : Job) (plan : Plan) (why : ClusterRefusal) → job_with job kept.tables.jobs ≡ Some row → is_some (group_with spec.group kept.tables.groups) ≡ true → parsed spec.kind spec.schedule ≡ Ok plan
+    → again_reply row.edition (is_some row.next) (updated_time kept.settings.offset plan at row.next) ≡ refused why → IsPlanned kept (UpdateJob at job spec) (record { reply = Refused why; changes = []; node = node.Nothing })
+update-spent kept at job spec row plan why found group said says = update-refused kept at job spec why (update-found kept at job spec row plan found group said ∙ says)
+
+-- a job is updated
+pub update-planned : (kept : Kept) (at job edition : ℕ) (spec copied : JobSpec) (plan : Plan) (next : Option ℕ) (row new : Job) → KeepsRules kept.tables → job_with job kept.tables.jobs ≡ Some row → is_some (group_with spec.group kept.tables.groups) ≡ true → parsed spec.kind spec.schedule ≡ Ok plan
+    → again_reply row.edition (is_some row.next) (updated_time kept.settings.offset plan at row.next) ≡ Updated edition next → copied ≡ spec → new ≡ updated_row copied plan edition next row
+    → IsPlanned kept (UpdateJob at job spec) (record { reply = Updated edition next; changes = change.PutJob new ∷ []; node = node.Nothing })
+update-planned kept at job edition spec copied plan next row new rules found group said says same made =
+    let is : new ≡ updated_row spec plan edition next row = made ∙ ap (λ x. updated_row x plan edition next row) same in
+    let raises = again-is row.edition edition (is_some row.next) (updated_time kept.settings.offset plan at row.next) next says in
+    planned-rows kept (UpdateJob at job spec) (Updated edition next) (change.PutJob new ∷ []) (edit-allowed kept.tables job row new spec plan edition next rules found is said group) refl
+    (λ h. record { running = refl; scan = refl; rings = refl; pools = refl })
+    (λ h s. update-reply kept h at job spec s ∙ update-found kept at job spec row plan found group said ∙ says)
+    (λ h s.
+    let there = row-stands kept h job row found s in
+    let this : new ≡ updated_row spec (plan_of spec) (row.edition + 1) (updated_time (settings_of h).offset (plan_of spec) at row.next) row =
+      is
+      ∙ ap (λ n. updated_row spec plan n next row) raises.0
+      ∙ ap (λ n. updated_row spec plan (row.edition + 1) n row) raises.1
+      ∙ ap (λ (x : Settings). updated_row spec plan (row.edition + 1) (updated_time x.offset plan at row.next) row) s.settings
+      ∙ ap (λ p. updated_row spec p (row.edition + 1) (updated_time (settings_of h).offset p at row.next) row) (sym (plan-parsed spec plan said)) in
+    ap (with_jobs h) (updated-rows h at job spec row new (Updated edition next) (rows-rise kept h s) there (row-found h job row there) this))

@@ -4,3 +4,4 @@ pub mod PutLemmas
 pub mod KeptRules
 pub mod RowPlans
 pub mod EditLemmas
+pub mod GroupLemmas

@@ -1,1 +1,1 @@
-use Rattle.cluster_core.proofs.EditLemmas.{jobs-put}
+use Rattle.cluster_core.proofs.GroupLemmas.{set_group-planned}

@@ -5,3 +5,4 @@ pub mod KeptRules
 pub mod RowPlans
 pub mod EditLemmas
 pub mod GroupLemmas
+pub mod JobLemmas

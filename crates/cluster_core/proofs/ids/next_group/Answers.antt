@@ -1,1 +1,0 @@
-use Rattle.cluster_core.proofs.GroupLemmas.{set_group-planned}

@@ -1,5 +1,5 @@
 -- Plans that change the rows alone.
-use Rattle.std.proofs.Common.{◌≡◌, List, false, map, ap, ◌∙◌}
+use Rattle.std.proofs.Common.{◌≡◌, List, false, map, sym, ap, ◌∙◌, subst}
 use Rattle.job_values.specs.declared.cluster.ClusterEvent.{ClusterEvent}
 use Rattle.job_values.specs.declared.cluster.ClusterReply.{ClusterReply}
 use Rattle.job_records.specs.declared.change.Change.{Change}
@@ -10,7 +10,7 @@ use Rattle.cluster_history.specs.Nodes.{runs, admins}
 use Rattle.cluster_history.specs.Jobs.{scan_of}
 use Rattle.cluster_history.specs.Replies.{reply_of}
 use Rattle.cluster_core.specs.declared.prepared.NodeChange.TheVariants as node
-use Rattle.cluster_core.specs.Kept.{Kept}
+use Rattle.cluster_core.specs.Kept.{Kept, ClusterState, kept_of}
 use Rattle.cluster_core.specs.Plans.{IsPlanned}
 use Rattle.cluster_core.specs.Stands.{Stands, records_of, ring_of, pools_of}
 use Rattle.cluster_core.proofs.PlanLemmas.{planned}
@@ -38,3 +38,9 @@ planned-rows kept e r changes allowed accepts leaves replies rows =
       rings = s.rings ∙ (leaves h).rings;
       pools = s.pools ∙ (leaves h).pools;
     })
+
+-- the same of what is seen of a cluster, and of changes that are these
+pub planned-seen : (inside seen : ClusterState) (e : ClusterEvent) (r : ClusterReply) (made changes : List Change) → inside ≡ seen → made ≡ changes → IsPlanned (kept_of inside) e (record { reply = r; changes = changes; node = node.Nothing }) → IsPlanned (kept_of seen) e (record { reply = r; changes = made; node = node.Nothing })
+planned-seen inside seen e r made changes view same is =
+    let P : ClusterState → Type 0 = λ state. IsPlanned (kept_of state) e (record { reply = r; changes = made; node = node.Nothing }) in
+    subst P view (subst (λ cs. IsPlanned (kept_of inside) e (record { reply = r; changes = cs; node = node.Nothing })) (sym same) is)

@@ -1,5 +1,5 @@
 //! The starts and the updates of jobs.
-ghost use Rattle.std.specs.Prelude.{◌≡◌, ◌+◌, nat_lt, is_some, Some, None, IfOk, IfErr, if◌then◌else◌};
+ghost use Rattle.std.specs.Prelude.{◌≡◌, is_some, IfOk, IfErr};
 ghost use Rattle.job_values.specs.declared.cluster.ClusterEvent.TheVariants.{StartJob, UpdateJob};
 ghost use Rattle.job_values.specs.declared.cluster.ClusterReply.TheVariants.{Updated};
 ghost use Rattle.cluster_history.specs.Jobs.{first_time, updated_time};
@@ -10,9 +10,10 @@ ghost use Rattle.cluster_core.specs.Plans.{IsPlanned};
 
 use super::changes::one_change;
 use super::cluster::Cluster;
+use super::ids::next_edition;
 use super::jobs::schedule_said;
 use super::prepared::{NodeChange, Prepared};
-use cluster_history::limits::{LAST_EDITION, LOOK_AHEAD};
+use cluster_history::limits::LOOK_AHEAD;
 use cron_schedule::laws::law_after_rises;
 use cron_schedule::Schedule;
 use job_records::{Change, Job};
@@ -20,17 +21,6 @@ use job_values::{
     ClusterRefusal, ClusterReply, Edition, JobId, JobSpec, Moment, NoMemory, Offset,
 };
 use std::alloc::Global;
-
-/// The edition after one; None where that is the greatest.
-pub fn next_edition(edition: Edition) -> Option<Edition>
-    ensures { result ≡ (if nat_lt edition LAST_EDITION then Some (edition + 1) else None) }
-{
-    if edition < LAST_EDITION {
-        Some(edition + 1)
-    } else {
-        None
-    }
-}
 
 /// The first due time of a job that is started at a moment.
 fn first_after(schedule: &Schedule, offset: Offset, at: Moment) -> Option<Moment>

@@ -8,8 +8,8 @@ ghost use Rattle.cluster_core.specs.Plans.{IsPlanned};
 
 use super::changes::{one_change, two_changes};
 use super::cluster::Cluster;
-use super::edits::{next_edition, turned};
-use super::ids::next_job;
+use super::edits::turned;
+use super::ids::{next_edition, next_job};
 use super::prepared::{NodeChange, Prepared};
 use cluster_history::limits::MOST_JOBS;
 use cron_schedule::{ParseFault, Schedule};

@@ -8,3 +8,9 @@ pub mod KeptLemmas
 pub mod SoundLemmas
 pub mod CountLemmas
 pub mod ShownLemmas
+pub mod PutLemmas
+pub mod KeptRules
+pub mod RowPlans
+pub mod EditLemmas
+pub mod GroupLemmas
+pub mod JobLemmas

@@ -3,3 +3,4 @@ pub mod Commits
 pub mod Stands
 pub mod Plans
 pub mod Steps
+pub mod Edits

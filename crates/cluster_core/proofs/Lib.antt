@@ -10,3 +10,10 @@ pub mod OpeningLemmas
 pub mod FiringLemmas
 pub mod FireLemmas
 pub mod CountLemmas
+pub mod ShownLemmas
+pub mod PutLemmas
+pub mod KeptRules
+pub mod RowPlans
+pub mod EditLemmas
+pub mod GroupLemmas
+pub mod JobLemmas

@@ -17,3 +17,5 @@ pub mod RowPlans
 pub mod EditLemmas
 pub mod GroupLemmas
 pub mod JobLemmas
+pub mod ScanLemmas
+pub mod StepLemmas

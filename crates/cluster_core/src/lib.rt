@@ -23,4 +23,3 @@ mod turns;
 
 pub use cluster::Cluster;
 pub use prepared::{Entering, NodeChange, Prepared};
-

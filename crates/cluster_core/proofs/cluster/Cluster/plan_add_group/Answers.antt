@@ -9,4 +9,4 @@ returns c =
     let last : ℕ → LastIds = λ id. record { group = id; job = c.last_ids-last.result.job; log = c.last_ids-last.result.log } in
     planned-seen _ _ _ _ _ _ c.self.view_is c.in_ok-changes.ensures
     (add_group-planned _ c.args.app.now c.in_ok-copy.field-0 c.args.kind c.args.addresses.now c.in_ok-copy_addresses.field-0 c.in-Some.id (last c.get.result) c.self.invariant.rules (search rules) (search rules) (search rules) c.in_ok-copy.ensures c.in_ok-copy_addresses.ensures
-      (ap last c.get.ensures.value ∙ ap (with_last_group c.in-Some.id) c.last_ids-last.ensures.value))
+    (ap last c.get.ensures.value ∙ ap (with_last_group c.in-Some.id) c.last_ids-last.ensures.value))

@@ -8,5 +8,5 @@ pub returns : goal.returns
 returns c =
     let put : List ℕ → List (List ℕ) → Group = λ app addresses. record { id = c.in-Some.row.now.id; app = app; kind = c.args.kind; addresses = addresses } in
     planned-seen _ _ _ _ _ _ c.self.view_is c.in_ok-changes.ensures
-    (set_group-planned _ c.args.group c.args.kind c.args.addresses.now c.in-Some.row.now (put c.in_ok-copy.field-0 c.in_ok-copy_addresses.field-0) c.self.invariant.rules (sym c.in-Some.ensures)
-      (ap (λ app. put app c.in_ok-copy_addresses.field-0) c.in_ok-copy.ensures ∙ ap (put c.in-Some.row.now.app) c.in_ok-copy_addresses.ensures))
+    (set_group-planned _ c.args.group c.args.kind c.args.addresses.now c.in-Some.row.now (put c.in_ok-app.app c.in_ok-addresses.addresses) c.self.invariant.rules (sym c.in-Some.ensures)
+    (ap (λ app. put app c.in_ok-addresses.addresses) c.in_ok-app.ensures ∙ ap (put c.in-Some.row.now.app) c.in_ok-addresses.ensures))

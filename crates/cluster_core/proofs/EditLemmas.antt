@@ -1,10 +1,8 @@
 -- Starts, stops and updates of jobs: the row of a present job is replaced.
 use Rattle.std.proofs.Common.{◌≡◌, ℕ, ◌+◌, ◌<◌, List, [], ◌∷◌, Bool, true, false, cond, eqb, nat_lt, Option, Some, None, Ok, is_some, map, refl, sym, ap, ◌∙◌, subst, arith}
-use Rattle.std.specs.Prelude.{ℤ, Result, if◌then◌else◌}
+use Rattle.std.specs.Prelude.{if◌then◌else◌}
 use Rattle.std.proofs.lemmas.Bool.Decides.{nat_tests}
 use Rattle.job_values.specs.declared.job.JobSpec.{JobSpec}
-use Rattle.job_values.specs.declared.job.ScheduleFault.{ScheduleFault}
-use Rattle.job_values.specs.declared.cluster.ClusterEvent.{ClusterEvent}
 use Rattle.job_values.specs.declared.cluster.ClusterEvent.TheVariants.{UpdateJob, StartJob, StopJob}
 use Rattle.job_values.specs.declared.cluster.ClusterRefusal.{ClusterRefusal}
 use Rattle.job_values.specs.declared.cluster.ClusterRefusal.TheVariants.{IdsSpent}
@@ -15,10 +13,10 @@ use Rattle.cron_schedule.specs.declared.plan.Plan.{Plan}
 use Rattle.cron_schedule.specs.Parse.{parsed}
 use Rattle.job_records.specs.declared.change.Change.TheVariants as change
 use Rattle.job_records.specs.declared.job.Job.{Job}
-use Rattle.job_records.specs.Rows.{row_with, changed, RisesFrom}
+use Rattle.job_records.specs.Rows.{changed, RisesFrom}
 use Rattle.job_records.specs.Rules.{KeepsRules, RunsByNext, HasItsSchedule, HasGroup}
 use Rattle.job_records.specs.Tables.{Tables}
-use Rattle.job_records.specs.Changes.{put_row, applied_all, AreAllowed}
+use Rattle.job_records.specs.Changes.{put_row, AreAllowed}
 use Rattle.job_records.proofs.RowLemmas.{rises-from_rising}
 use Rattle.cluster_history.specs.declared.settings.Settings.{Settings}
 use Rattle.cluster_history.specs.History.{History, After, accepted, settings_of}

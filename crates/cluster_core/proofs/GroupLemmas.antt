@@ -1,24 +1,22 @@
 -- Plans for the groups.
-use Rattle.std.proofs.Common.{◌≡◌, ℕ, ◌+◌, ◌<◌, ◌≤◌, List, [], ◌∷◌, ◌++◌, Bool, true, false, cond, nat_lt, Some, is_some, length, refl, sym, ap, ◌∙◌, subst, arith}
+use Rattle.std.proofs.Common.{◌≡◌, ℕ, ◌+◌, ◌<◌, List, [], ◌∷◌, ◌++◌, true, cond, nat_lt, Some, is_some, length, refl, sym, ap, ◌∙◌, subst, arith}
 use Rattle.std.proofs.lemmas.Bool.Decides.{nat_tests}
 use Rattle.job_values.specs.declared.numbers.TheConstants.{LAST_JOB_ID}
 use Rattle.job_values.specs.declared.words.GroupKind.{GroupKind}
 use Rattle.job_values.specs.declared.cluster.ClusterEvent.TheVariants.{AddGroup, SetGroup}
-use Rattle.job_values.specs.declared.cluster.ClusterRefusal.{ClusterRefusal}
 use Rattle.job_values.specs.declared.cluster.ClusterRefusal.TheVariants.{NoGroup, TooMany}
-use Rattle.job_values.specs.declared.cluster.ClusterReply.{ClusterReply}
-use Rattle.job_values.specs.declared.cluster.ClusterReply.TheVariants.{Done, Refused, Group as GroupReply}
+use Rattle.job_values.specs.declared.cluster.ClusterReply.TheVariants.{Done, Group as GroupReply}
 use Rattle.job_records.specs.declared.change.Change.{Change}
 use Rattle.job_records.specs.declared.change.Change.TheVariants as change
 use Rattle.job_records.specs.declared.group.Group.{Group}
 use Rattle.job_records.specs.declared.last_ids.LastIds.{LastIds}
 use Rattle.job_records.specs.declared.limits.TheConstants.{MOST_GROUPS}
-use Rattle.job_records.specs.Rows.{changed, IsRising}
+use Rattle.job_records.specs.Rows.{changed}
 use Rattle.job_records.specs.Rules.{KeepsRules}
 use Rattle.job_records.specs.Tables.{Tables}
-use Rattle.job_records.specs.Changes.{put_row, applied, AreAllowed}
+use Rattle.job_records.specs.Changes.{applied, AreAllowed}
 use Rattle.job_records.proofs.RowLemmas.{rises-from_rising}
-use Rattle.cluster_history.specs.History.{History, After, accepted}
+use Rattle.cluster_history.specs.History.{History, accepted}
 use Rattle.cluster_history.specs.Groups.{groups_of, last_group, group_with, group_set}
 use Rattle.cluster_history.specs.Replies.{reply_of, group_reply, done_if, refused}
 use Rattle.cluster_history.proofs.RowIds.{groups_rise}
@@ -26,7 +24,6 @@ use Rattle.cluster_core.specs.declared.prepared.NodeChange.TheVariants as node
 use Rattle.cluster_core.specs.Kept.{Kept}
 use Rattle.cluster_core.specs.Plans.{IsPlanned}
 use Rattle.cluster_core.specs.Stands.{Stands, records_of}
-use Rattle.cluster_core.proofs.PlanLemmas.{planned-refused}
 use Rattle.cluster_core.proofs.PutLemmas.{put-behind, put-changed, found-id}
 use Rattle.cluster_core.proofs.KeptRules.{rules-last, rules-new_group, rules-put_group}
 use Rattle.cluster_core.proofs.RowPlans.{planned-rows}

@@ -1,17 +1,14 @@
 -- Plans that add and remove jobs.
-use Rattle.std.proofs.Common.{◌≡◌, ℕ, ◌+◌, ◌<◌, ◌≤◌, List, [], ◌∷◌, ◌++◌, Bool, true, false, cond, eqb, not, nat_lt, Some, None, Ok, is_some, length, map, refl, sym, ap, ◌∙◌, subst, arith}
-use Rattle.std.specs.Prelude.{Result}
+use Rattle.std.proofs.Common.{◌≡◌, ℕ, ◌+◌, ◌<◌, ◌≤◌, List, [], ◌∷◌, ◌++◌, Bool, true, false, cond, eqb, not, nat_lt, None, Ok, is_some, length, map, refl, sym, ap, ◌∙◌, subst, arith}
 use Rattle.std.specs.List.{filter}
 use Rattle.std.proofs.lemmas.Bool.Decides.{nat_tests}
 use Rattle.std.proofs.lemmas.List.{map-append}
 use Rattle.job_values.specs.declared.numbers.TheConstants.{LAST_JOB_ID}
 use Rattle.job_values.specs.declared.job.JobSpec.{JobSpec}
-use Rattle.job_values.specs.declared.job.ScheduleFault.{ScheduleFault}
 use Rattle.job_values.specs.declared.cluster.ClusterEvent.TheVariants.{AddJob, RemoveJob}
-use Rattle.job_values.specs.declared.cluster.ClusterRefusal.{ClusterRefusal}
 use Rattle.job_values.specs.declared.cluster.ClusterRefusal.TheVariants.{NoJob, TooMany}
 use Rattle.job_values.specs.declared.cluster.ClusterReply.{ClusterReply}
-use Rattle.job_values.specs.declared.cluster.ClusterReply.TheVariants.{Done, Refused, Job as JobReply}
+use Rattle.job_values.specs.declared.cluster.ClusterReply.TheVariants.{Done, Job as JobReply}
 use Rattle.cron_schedule.specs.declared.plan.Plan.{Plan}
 use Rattle.cron_schedule.specs.Parse.{parsed}
 use Rattle.job_records.specs.declared.change.Change.{Change}
@@ -22,7 +19,7 @@ use Rattle.job_records.specs.declared.limits.TheConstants.{MOST_JOBS}
 use Rattle.job_records.specs.Rows.{IsRising}
 use Rattle.job_records.specs.Rules.{KeepsRules}
 use Rattle.job_records.specs.Tables.{Tables}
-use Rattle.job_records.specs.Changes.{put_row, without, applied, AreAllowed}
+use Rattle.job_records.specs.Changes.{without, applied, AreAllowed}
 use Rattle.job_records.proofs.RowLemmas.{rising-ends}
 use Rattle.cluster_history.specs.History.{History, After, accepted}
 use Rattle.cluster_history.specs.Groups.{group_with}
@@ -35,7 +32,6 @@ use Rattle.cluster_core.specs.Edits.{new_row}
 use Rattle.cluster_core.specs.Kept.{Kept}
 use Rattle.cluster_core.specs.Plans.{IsPlanned}
 use Rattle.cluster_core.specs.Stands.{Stands, records_of}
-use Rattle.cluster_core.proofs.PlanLemmas.{planned-refused}
 use Rattle.cluster_core.proofs.PutLemmas.{put-behind}
 use Rattle.cluster_core.proofs.KeptRules.{rules-last, rules-new_job, rules-drop_job}
 use Rattle.cluster_core.proofs.RowPlans.{planned-rows}

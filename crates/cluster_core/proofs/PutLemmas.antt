@@ -1,14 +1,14 @@
 -- Rows that are put among rows in order of their ids, and what the rules say of them.
-use Rattle.std.proofs.Common.{◌≡◌, ℕ, ◌+◌, ◌<◌, ◌≤◌, List, [], ◌∷◌, ◌++◌, Bool, true, false, cond, eqb, Option, Some, None, is_some, length, map, refl, sym, ap, ◌∙◌, subst, arith}
+use Rattle.std.proofs.Common.{◌≡◌, ℕ, ◌<◌, ◌≤◌, List, [], ◌∷◌, ◌++◌, Bool, true, false, cond, eqb, Option, Some, is_some, length, refl, sym, ap, ◌∙◌, subst, arith}
 use Rattle.std.specs.declared.cmp.Ordering.{Ordering}
 use Rattle.std.specs.declared.cmp.Ordering.TheVariants.{Less, Equal, Greater}
-use Rattle.std.specs.List.{find, All}
+use Rattle.std.specs.List.{All}
 use Rattle.std.specs.Ordering.{nat_cmp, match_ordering}
 use Rattle.std.proofs.lemmas.Bool.Decides.{nat_tests}
 use Rattle.std.proofs.lemmas.List.Elements.{All-nil, All-cons, All-head, All-tail}
 use Rattle.job_records.specs.Rows.{row_with, changed, RisesFrom, IsRising}
 use Rattle.job_records.specs.Changes.{put_row}
-use Rattle.job_records.proofs.OrderLemmas.{less-nat, greater-nat}
+use Rattle.job_records.proofs.OrderLemmas.{less-nat}
 use Rattle.cluster_history.proofs.RowIds.{rising-mapped}
 use Rattle.std.proofs.lemmas.List.{length-map}
 use Rattle.job_records.proofs.RowLemmas.{changed-none, rises-from_rising, rising-ends}

@@ -33,9 +33,6 @@ put-behind id_of low last row (first ∷ rows) rising above =
     put-less id_of row first rows (omega arith)
     ∙ ap (λ xs. first ∷ xs) (put-behind id_of (id_of first) last row rows rising.1 above)
 
-some-same : {X : Type 0} (x y : X) → Some x ≡ Some y → x ≡ y
-some-same x y e = (cc)
-
 found-above_by : {R : Type 0} (id_of : R → ℕ) (low id : ℕ) (first : R) (rest : Option R) (row : R) (b : Bool) → eqb (id_of first) id ≡ b → low < id_of first → (rest ≡ Some row → id_of first < id) → cond b (Some first) rest ≡ Some row → low < id
 found-above_by id_of low id first rest row true test above later found = grind (arith, nat_tests)
 found-above_by id_of low id first rest row false test above later found = let more : id_of first < id = later found in omega arith
@@ -50,7 +47,8 @@ found-above id_of low id (first ∷ rows) row rises found =
 found-id_by : {R : Type 0} (id_of : R → ℕ) (id : ℕ) (first : R) (rest : Option R) (row : R) (b : Bool) → eqb (id_of first) id ≡ b → (rest ≡ Some row → id_of row ≡ id) → cond b (Some first) rest ≡ Some row → id_of row ≡ id
 found-id_by id_of id first rest row true test later found =
     let same : id_of first ≡ id = grind (arith, nat_tests) in
-    ap id_of (sym (some-same first row found)) ∙ same
+    let here : first ≡ row = (cc) in
+    ap id_of (sym here) ∙ same
 found-id_by id_of id first rest row false test later found = later found
 
 pub found-id : {R : Type 0} (id_of : R → ℕ) (id : ℕ) (rows : List R) (row : R) → row_with id_of id rows ≡ Some row → id_of row ≡ id
@@ -60,7 +58,7 @@ found-id id_of id (first ∷ rows) row found =
 
 -- what holds of each row holds of the one that is found
 found-all_by : {R : Type 0} (P : R → Type 0) (first : R) (rest : Option R) (row : R) (b : Bool) → P first → (rest ≡ Some row → P row) → cond b (Some first) rest ≡ Some row → P row
-found-all_by P first rest row true here later found = subst P (some-same first row found) here
+found-all_by P first rest row true holds later found = let here : first ≡ row = (cc) in subst P here holds
 found-all_by P first rest row false here later found = later found
 
 pub found-all : {R : Type 0} (P : R → Type 0) (id_of : R → ℕ) (id : ℕ) (rows : List R) (row : R) → All P rows → row_with id_of id rows ≡ Some row → P row
@@ -74,8 +72,9 @@ put-changed_by : {R : Type 0} (id_of : R → ℕ) (change : R → R) (low : ℕ)
     → put_row id_of new (first ∷ rows) ≡ cond b (change first) first ∷ changed id_of (id_of new) change rows
 put-changed_by id_of change low first row new rows true test is rises later found =
     let same : id_of first ≡ id_of new = grind (arith, nat_tests) in
+    let here : first ≡ row = (cc) in
     put-equal id_of new first rows test
-    ∙ ap (λ x. x ∷ rows) (is ∙ ap change (sym (some-same first row found)))
+    ∙ ap (λ x. x ∷ rows) (is ∙ ap change (sym here))
     ∙ ap (λ xs. change first ∷ xs) (sym (changed-none id_of (id_of first) (id_of new) change rows rises (omega arith)))
 put-changed_by id_of change low first row new rows false test is rises later found =
     put-less id_of new first rows (found-above id_of (id_of first) (id_of new) rows row rises found)

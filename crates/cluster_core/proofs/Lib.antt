@@ -14,3 +14,4 @@ pub mod RowPlans
 pub mod EditLemmas
 pub mod GroupLemmas
 pub mod JobLemmas
+pub mod EndingLemmas

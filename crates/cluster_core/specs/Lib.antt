@@ -4,3 +4,4 @@ pub mod Stands
 pub mod Plans
 pub mod Steps
 pub mod Edits
+pub mod Endings

@@ -7,6 +7,7 @@ pub mod cluster;
 mod commit;
 mod counts;
 mod edits;
+mod endings;
 mod fires;
 mod groups;
 mod ids;

@@ -15,3 +15,4 @@ pub mod EditLemmas
 pub mod GroupLemmas
 pub mod JobLemmas
 pub mod EndingLemmas
+pub mod StopLemmas

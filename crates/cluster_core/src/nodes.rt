@@ -34,11 +34,13 @@ impl Cluster {
         }
         let place = admin.get() as usize;
         let lost = self.rings[place].count();
-        let queue = self.pools[place].waiting(PoolKind::Fast);
+        let pools = &self.pools[place];
+        let ended = pools.length(PoolKind::Fast) as u64;
+        let queue = pools.waiting(PoolKind::Fast);
         let mut changes = Vec::new(self.alloc);
         end_logs(self.alloc, &self.records, queue, &mut changes)?;
         Ok(Prepared {
-            reply: ClusterReply::Stopped(lost, queue.len() as u64),
+            reply: ClusterReply::Stopped(lost, ended),
             changes: Seq::of(changes),
             node: NodeChange::Stops(admin),
         })

@@ -24,4 +24,3 @@ mod turns;
 
 pub use cluster::Cluster;
 pub use prepared::{Entering, NodeChange, Prepared};
-

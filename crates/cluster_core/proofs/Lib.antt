@@ -10,3 +10,4 @@ pub mod OpeningLemmas
 pub mod FiringLemmas
 pub mod FireLemmas
 pub mod CountLemmas
+pub mod TurnLemmas

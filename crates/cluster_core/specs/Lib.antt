@@ -5,3 +5,4 @@ pub mod Plans
 pub mod Steps
 pub mod Openings
 pub mod Firing
+pub mod Turning

@@ -1,5 +1,5 @@
 -- One firing of a job.
-use Rattle.std.proofs.Common.{◌≡◌, ℕ, ◌+◌, ◌<◌, ◌≤◌, List, [], ◌++◌, Bool, true, false, cond, nat_lt, length, map, Option, Some, None, refl, sym, ap, ◌∙◌, subst, Vec, Global, arith}
+use Rattle.std.proofs.Common.{◌≡◌, ℕ, ◌+◌, ◌<◌, ◌≤◌, List, [], ◌++◌, Bool, true, false, cond, eqb, nat_lt, length, map, Option, Some, None, refl, sym, ap, ◌∙◌, subst, Vec, Global, arith}
 use Rattle.std.specs.Prelude.{unwrap_or}
 use Rattle.std.proofs.lemmas.Bool.Decides.{nat_tests}
 use Rattle.std.proofs.lemmas.List.FromFn.{length-map-range_with_len}
@@ -13,30 +13,31 @@ use Rattle.job_values.specs.declared.words.TriggerKind.TheVariants.{Manual}
 use Rattle.job_values.specs.declared.cluster.ClusterEvent.TheVariants.{TriggerJob}
 use Rattle.job_values.specs.declared.cluster.ClusterReply.{ClusterReply}
 use Rattle.job_values.specs.declared.cluster.ClusterReply.TheVariants as reply
-use Rattle.job_values.specs.declared.cluster.ClusterRefusal.TheVariants.{IdsSpent}
-use Rattle.job_records.specs.Changes.{AreAllowed}
+use Rattle.job_values.specs.declared.cluster.ClusterRefusal.TheVariants.{IdsSpent, NoJob}
+use Rattle.job_records.specs.Changes.{AreAllowed, applied_all}
 use Rattle.job_records.specs.Rows.{row_with}
 use Rattle.job_records.specs.Rules.{KeepsRules}
 use Rattle.job_records.specs.Tables.{Tables}
 use Rattle.cluster_history.specs.History.{History, accepted}
-use Rattle.cluster_history.specs.Nodes.{runs}
+use Rattle.cluster_history.specs.Nodes.{runs, admins}
 use Rattle.cluster_history.specs.Looks.{job_with}
 use Rattle.cluster_history.specs.Jobs.{jobs_of}
 use Rattle.cluster_history.specs.Replies.{reply_after, fire_reply, if_ids, refused}
 use Rattle.cluster_history.specs.Firings.{Shot, shots_with, shots_by, shot_for, shards, shots_asked, shots_by_hand}
 use Rattle.cluster_history.specs.Groups.{group_with, addresses_in, groups_of}
-use Rattle.cluster_history.specs.Logs.{placed_from, opened_of, last_log, queue_of}
+use Rattle.cluster_history.specs.Logs.{placed_from, opened_of, last_log, queue_of, opened_logs, behind}
 use Rattle.cluster_core.specs.declared.firing.Fired.{Fired}
 use Rattle.cluster_core.specs.declared.opening.Openings.{Openings}
 use Rattle.cluster_core.specs.declared.prepared.Entering.{Entering}
 use Rattle.cluster_core.specs.declared.prepared.NodeChange.TheVariants as node
 use Rattle.cluster_core.specs.Firing.{Fires}
 use Rattle.cluster_core.specs.Kept.{Kept, pools_at}
+use Rattle.cluster_core.specs.Commits.{pools_after}
 use Rattle.cluster_core.specs.Plans.{IsPlanned}
-use Rattle.cluster_core.specs.Stands.{Stands}
+use Rattle.cluster_core.specs.Stands.{Stands, records_of}
 use Rattle.cluster_core.specs.Openings.{OpensBehind, told_of, put_of, entering_of, opening_changes}
 use Rattle.cluster_core.proofs.PlanLemmas.{planned, answered-running}
-use Rattle.cluster_core.proofs.FiringLemmas.{fired-allowed, fired-tables, fired-pools, queue-length}
+use Rattle.cluster_core.proofs.FiringLemmas.{fired-allowed, fired-tables, fired-pools_by, queue-length, with_logs, only_fast}
 
 -- how many logs a firing opens
 pub count-shots : (groups : List Group) (param : List ℕ) (kind : TriggerKind) (at : ℕ) (row : Job) → length (shots_with groups param kind at row) ≡ shards row.spec.route (addresses_in (group_with row.spec.group groups))
@@ -104,4 +105,23 @@ planned-fire kept admin at job queued param row fired below here rules found fir
     ∙ ids-left kept.tables.last.log (length (shots_with kept.tables.groups (unwrap_or param row.spec.param) Manual at row)) _ fires.ids
     ∙ ap (λ n. reply.Opened (map opened_of (placed_from kept.tables.last.log n (shots_with kept.tables.groups (unwrap_or param row.spec.param) Manual at row)))) (sym here)
     ∙ ap reply.Opened (sym fires.opened))
-    (λ h s. ?)
+    (λ h s.
+    let asked : shots_with kept.tables.groups (unwrap_or param row.spec.param) Manual at row ≡ shots_asked h at job param = sym (shots-by_hand kept h at job param row found s) in
+    record {
+      opens = s.opens;
+      settings = s.settings;
+      running = s.running;
+      scan = s.scan;
+      rings = s.rings;
+      tables = ap (applied_all kept.tables) fires.changes
+          ∙ fired-tables kept h admin queued (shots_with kept.tables.groups (unwrap_or param row.spec.param) Manual at row) below here rules fires.ids s
+          ∙ ap (λ ss. with_logs (records_of h) (last_log h + length ss) (opened_logs h admin ss)) asked;
+      pools = ap (λ es. pools_after admin es kept.pools) fires.entering
+          ∙ fired-pools_by kept h admin queued (shots_with kept.tables.groups (unwrap_or param row.spec.param) Manual at row) below here s
+          ∙ ap (λ ss. map (λ a. only_fast (cond (eqb a admin) (behind h (queue_of h a) ss) (queue_of h a))) admins) asked;
+    })
+
+-- a firing of a job that is gone
+pub gone-fire : (kept : Kept) (h : History) (admin at job : ℕ) (param : Option (List ℕ)) → runs h admin ≡ true → row_with (λ (r : Job). r.id) job kept.tables.jobs ≡ None → Stands kept h → reply_after h (TriggerJob admin at job param) ≡ refused NoJob
+gone-fire kept h admin at job param running found s =
+    answered-running (runs h admin) admin _ running ∙ ap (λ r. fire_reply (last_log h) (length (queue_of h admin)) (shots_asked h at job param) r) (job-found kept h job None found s)

@@ -137,3 +137,12 @@ fired-tables kept h admin queued shots below here rules room s =
     fired-rows kept.tables queued shots rules room
     ∙ ap (λ (t : Tables). with_logs t (t.last.log + length shots) (rows_from t.last.log queued shots)) s.tables
     ∙ ap (λ n. with_logs (records_of h) (last_log h + length shots) (rows_from (last_log h) n shots)) (here ∙ queue-length kept h admin below s)
+
+-- the pools after a firing, by what is kept
+pub fired-pools_by : (kept : Kept) (h : History) (admin queued : ℕ) (shots : List Shot) → admin < 16 → queued ≡ length (pools_at kept.pools admin).fast → Stands kept h
+    → pools_after admin (map entering_of (placed_from kept.tables.last.log queued shots)) kept.pools
+    ≡ map (λ a. only_fast (cond (eqb a admin) (behind h (queue_of h a) shots) (queue_of h a))) admins
+fired-pools_by kept h admin queued shots below here s =
+    ap (λ n. pools_after admin (map entering_of (placed_from kept.tables.last.log n shots)) kept.pools) (here ∙ queue-length kept h admin below s)
+    ∙ ap (λ (t : Tables). pools_after admin (map entering_of (placed_from t.last.log (length (queue_of h admin)) shots)) kept.pools) s.tables
+    ∙ fired-pools kept h admin shots below s

@@ -1,14 +1,19 @@
 -- What a change beside the rows makes of what is kept.
 use Rattle.std.proofs.Common.{◌≡◌, ℕ, ◌<◌, ◌≤◌, List, [], ◌∷◌, Bool, true, false, map, length, get_or, set, replicate, Option, Some, None, refl, sym, ap, ◌∙◌, subst, arith}
-use Rattle.std.proofs.lemmas.List.{map-set, length-map, get_or-map}
+use Rattle.std.proofs.lemmas.List.{map-set, length-map, get_or-map, get_or-set_same}
+use Rattle.std.proofs.Math.Seq.{map-set_same}
+use Rattle.job_records.specs.Changes.{applied_all}
+use Rattle.job_records.specs.Room.{RecordsState}
+use Rattle.job_records.specs.Tables.{Tables}
 use Rattle.time_ring.specs.declared.ticket.Ticket.{Ticket}
 use Rattle.time_ring.specs.Ring.{Ring, no_tickets}
 use Rattle.trigger_pool.specs.Pool.{PoolState, Queues, no_logs}
 use Rattle.cluster_history.specs.declared.scan.Scan.{Scan}
 use Rattle.cluster_history.specs.Pages.{unless_owner, stepped}
 use Rattle.cluster_core.specs.declared.prepared.NodeChange.TheVariants as node
+use Rattle.cluster_core.specs.declared.prepared.Prepared.{Prepared}
 use Rattle.cluster_core.specs.Kept.{Kept, ClusterState, kept_of, ring_at, pools_at}
-use Rattle.cluster_core.specs.Commits.{node_changed}
+use Rattle.cluster_core.specs.Commits.{node_changed, committed, pool_room, ring_room}
 
 -- a ring in the place of one
 pub slots-set : (rings : List Ring) (place : ℕ) (ring : Ring) (slots : List (List Ticket)) → ring.slots ≡ slots → map (λ (r : Ring). r.slots) (set rings place ring) ≡ set (map (λ (r : Ring). r.slots) rings) place slots
@@ -69,3 +74,31 @@ pub pools-changed : (pools : List PoolState) (admin place : ℕ) (old new : Pool
 pools-changed pools admin place old new f here below is made =
     pools-set pools place new (f (pools_at (map (λ (p : PoolState). p.kept) pools) admin)) (made ∙ ap f (pools-read pools admin place old here below is))
     ∙ ap (λ n. set (map (λ (p : PoolState). p.kept) pools) n (f (pools_at (map (λ (p : PoolState). p.kept) pools) admin))) here
+
+-- a prepared event is done
+pub kept-committed : (old between : ClusterState) (records : RecordsState) (prepared : Prepared) → kept_of between ≡ node_changed prepared.node (kept_of old) → between.records ≡ old.records → records.kept ≡ applied_all between.records.kept prepared.changes
+    → kept_of (record between { records = records }) ≡ committed (kept_of old) prepared
+kept-committed old between records prepared changed same applied =
+    ap (λ (k : Kept). record k { tables = records.kept }) changed
+    ∙ ap (λ (t : Tables). record (node_changed prepared.node (kept_of old)) { tables = t }) (applied ∙ ap (λ (r : RecordsState). applied_all r.kept prepared.changes) same)
+
+-- the room of pools at a place
+pub pools-room : (pools : List PoolState) (admin place : ℕ) (pool : PoolState) → place ≡ admin → admin < length pools → pool_room (set pools place pool) admin ≡ pool.room.logs
+pools-room pools admin place pool here below =
+    ap (λ n. pool_room (set pools n pool) admin) here
+    ∙ ap (λ rooms. get_or rooms admin 0) (map-set (λ (p : PoolState). p.room.logs) pools admin pool)
+    ∙ get_or-set_same (map (λ (p : PoolState). p.room.logs) pools) admin pool.room.logs 0 (omega (arith, length-map pools (λ (p : PoolState). p.room.logs)))
+
+-- the room of a ring at a place
+pub rings-room : (rings : List Ring) (admin place : ℕ) (ring : Ring) → place ≡ admin → admin < length rings → ring_room (set rings place ring) admin ≡ ring.room
+rings-room rings admin place ring here below =
+    ap (λ n. ring_room (set rings n ring) admin) here
+    ∙ ap (λ rooms. get_or rooms admin []) (map-set (λ (r : Ring). r.room) rings admin ring)
+    ∙ get_or-set_same (map (λ (r : Ring). r.room) rings) admin ring.room [] (omega (arith, length-map rings (λ (r : Ring). r.room)))
+
+-- more room moves nothing
+pub pools-kept : (pools : List PoolState) (place : ℕ) (old new : PoolState) → old ≡ get_or pools place old → new.kept ≡ old.kept → map (λ (p : PoolState). p.kept) (set pools place new) ≡ map (λ (p : PoolState). p.kept) pools
+pools-kept pools place old new is same = map-set_same (λ (p : PoolState). p.kept) pools place new old (same ∙ ap (λ (p : PoolState). p.kept) is)
+
+pub slots-kept : (rings : List Ring) (place : ℕ) (old new : Ring) → old ≡ get_or rings place old → new.slots ≡ old.slots → map (λ (r : Ring). r.slots) (set rings place new) ≡ map (λ (r : Ring). r.slots) rings
+slots-kept rings place old new is same = map-set_same (λ (r : Ring). r.slots) rings place new old (same ∙ ap (λ (r : Ring). r.slots) is)

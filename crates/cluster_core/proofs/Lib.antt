@@ -11,3 +11,10 @@ pub mod FiringLemmas
 pub mod FireLemmas
 pub mod CountLemmas
 pub mod TurnLemmas
+pub mod ShownLemmas
+pub mod PutLemmas
+pub mod KeptRules
+pub mod RowPlans
+pub mod EditLemmas
+pub mod GroupLemmas
+pub mod JobLemmas

@@ -4,6 +4,8 @@ use Rattle.std.proofs.lemmas.Bool.{cases_eq, cases_lt}
 use Rattle.std.proofs.lemmas.Bool.Decides.{nat_tests}
 use Rattle.std.proofs.lemmas.List.{get_or-set_same, get_or-set_other, length-set, get_or_past, length-map, length-append}
 use Rattle.std.proofs.Math.ListN.{get_or-map}
+use Rattle.job_records.specs.Rules.{KeepsRules}
+use Rattle.job_records.specs.Tables.{Tables}
 use Rattle.job_values.specs.declared.words.PoolAnswer.TheVariants.{Fast, Slow, Full}
 use Rattle.time_ring.specs.declared.ticket.Ticket.{Ticket}
 use Rattle.trigger_pool.specs.Pool.{Queues, no_logs, with_log}
@@ -109,3 +111,7 @@ sound-changed kept (node.Fires admin logs) sound = record {
   rules = sound.rules;
   limits = limits-after kept.pools admin logs sound.limits;
 }
+
+-- other rows that keep the rules
+pub sound-rows : (kept : Kept) (tables : Tables) → KeepsRules tables → IsSound kept → IsSound (record kept { tables = tables })
+sound-rows kept tables rules sound = record { running = sound.running; rings = sound.rings; pools = sound.pools; rules = rules; limits = sound.limits }

@@ -6,3 +6,4 @@ pub mod Steps
 pub mod Openings
 pub mod Firing
 pub mod Turning
+pub mod Edits

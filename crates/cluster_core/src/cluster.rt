@@ -124,7 +124,7 @@ impl Cluster {
             node,
         } = prepared;
         self.change_node(node);
-        let _ = changes; // self.records.apply(changes) once job_records has it
+        self.records.apply(changes);
         reply
     }
 

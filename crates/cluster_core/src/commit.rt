@@ -1,59 +1,19 @@
 //! What a prepared event changes beside the rows.
-ghost use Rattle.std.specs.Prelude.{◌≡◌, ◌≤◌, length, map, replicate, false};
-ghost use Rattle.time_ring.specs.Ring.{no_tickets};
-ghost use Rattle.trigger_pool.specs.Pool.{no_logs};
+ghost use Rattle.std.specs.Prelude.{◌≡◌, length, replicate, false};
 ghost use Rattle.cluster_history.specs.Pages.{unless_owner};
 ghost use Rattle.cluster_core.specs.declared.prepared.NodeChange.TheVariants as node;
 ghost use Rattle.cluster_core.specs.Kept.{kept_of};
-ghost use Rattle.cluster_history.specs.declared.limits.TheConstants.{ADMINS};
-ghost use Rattle.cluster_core.specs.Commits.{node_changed, entered, pools_after, rings_with, rings_turned, ring_room, pool_room, HasRoomToPut, HasRoomFor};
+ghost use Rattle.cluster_core.specs.Commits.{node_changed, HasRoomFor};
 
 use super::cluster::Cluster;
 use super::pages::step_on;
-use super::prepared::{Entering, NodeChange};
+use super::pools::{empty_pools, enter_at};
+use super::prepared::NodeChange;
+use super::rings::{clear_rings, put_at, turn_at};
 use cluster_history::Scan;
-use job_values::{AdminNo, Seq};
-use std::alloc::Global;
-use time_ring::{Ticket, TimeRing};
+use job_values::AdminNo;
 use trigger_pool::Pools;
 
-/// Puts logs into the pools of an admin.
-fn enter(pools: &mut Pools, logs: &Seq<Entering>)
-    requires { length logs.now ≤ pools.old.room.logs }
-    ensures { pools.new.kept ≡ entered pools.old.kept logs.now }
-{
-    for log in logs.as_slice() {
-        pools.add(log.log, log.job);
-    }
-}
-
-/// Puts logs into the pools of one of the admins.
-fn enter_at(pools: &mut Vec<Pools>, admin: AdminNo, logs: &Seq<Entering>)
-    requires admins { length pools.old.items ≡ ADMINS }
-    requires room { length logs.now ≤ pool_room pools.old.items admin }
-    ensures { map (λ pool. pool.kept) pools.new.items ≡ pools_after admin logs.now (map (λ pool. pool.kept) pools.old.items) }
-{
-    enter(&mut pools[admin.get() as usize], logs);
-}
-
-/// Puts a ticket, if there is one, into the ring of one of the admins.
-fn put_at(rings: &mut Vec<TimeRing>, admin: AdminNo, put: Option<Ticket>)
-    requires admins { length rings.old.items ≡ ADMINS }
-    requires room { HasRoomToPut (ring_room rings.old.items admin) put }
-    ensures { map (λ ring. ring.slots) rings.new.items ≡ rings_with admin put (map (λ ring. ring.slots) rings.old.items) }
-{
-    if let Some(ticket) = put {
-        rings[admin.get() as usize].put(ticket);
-    }
-}
-
-/// Turns the ring of one of the admins.
-fn turn_at(rings: &mut Vec<TimeRing>, admin: AdminNo, second: u64)
-    requires { length rings.old.items ≡ ADMINS }
-    ensures { map (λ ring. ring.slots) rings.new.items ≡ rings_turned admin second (map (λ ring. ring.slots) rings.old.items) }
-{
-    rings[admin.get() as usize].take(second);
-}
 
 /// A stop of its owner ends the scan.
 fn close_of(scan: &mut Option<Scan>, admin: AdminNo)
@@ -72,24 +32,6 @@ fn stop_running(running: &mut Vec<bool>)
 {
     for one in running.iter_mut() {
         *one = false;
-    }
-}
-
-/// Drops the tickets of all rings.
-fn clear_rings(rings: &mut Vec<TimeRing>)
-    ensures { map (λ ring. ring.slots) rings.new.items ≡ replicate (length rings.old.items) no_tickets }
-{
-    for ring in rings.iter_mut() {
-        ring.clear();
-    }
-}
-
-/// Drops the logs of all pools.
-fn empty_pools(alloc: Global, pools: &mut Vec<Pools>)
-    ensures { map (λ pool. pool.kept) pools.new.items ≡ replicate (length pools.old.items) no_logs }
-{
-    for one in pools.iter_mut() {
-        *one = Pools::new(alloc);
     }
 }
 

@@ -1,8 +1,9 @@
-//! The next ids, and rows behind the others.
+//! The next ids and editions, and rows behind the others.
 ghost use Rattle.std.specs.Prelude.{◌≡◌, ◌+◌, ◌<◌, ◌≤◌, [], ◌∷◌, ◌++◌, IfSome, IfNone, OnOk, OnErr};
 ghost use Rattle.job_values.specs.declared.numbers.TheConstants.{LAST_JOB_ID};
+ghost use Rattle.cluster_history.specs.declared.limits.TheConstants.{LAST_EDITION};
 
-use job_values::{GroupId, JobId, NoMemory};
+use job_values::{Edition, GroupId, JobId, NoMemory};
 
 /// The group id after the last one; None where that is the greatest.
 pub fn next_group(last: u32) -> Option<GroupId>
@@ -18,6 +19,14 @@ pub fn next_job(last: u32) -> Option<JobId>
     ensures none { IfNone result (LAST_JOB_ID ≤ last) }
 {
     JobId::new(last.checked_add(1)?)
+}
+
+/// The edition after one; None where that is the greatest.
+pub fn next_edition(edition: Edition) -> Option<Edition>
+    ensures some { IfSome result (λ next. (edition < LAST_EDITION) × (next ≡ edition + 1)) }
+    ensures none { IfNone result (LAST_EDITION ≤ edition) }
+{
+    edition.checked_add(1)
 }
 
 /// Puts a row behind the others. An `Err` changes nothing.

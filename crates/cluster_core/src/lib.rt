@@ -2,6 +2,7 @@
 //! cluster defines. An event is prepared, which takes all memory that it needs, and then committed.
 #![tactic(auto)]
 
+mod changes;
 pub mod cluster;
 mod commit;
 mod counts;

@@ -1,7 +1,7 @@
 use Rattle.std.proofs.Common.{arith}
 use Rattle.time_ring.specs.Ring.{after_turn}
 use Rattle.cluster_core.proofs.KeptLemmas.{slots-changed}
-use Rattle.cluster_core.proofs.commit.turn_at.Goals as goal
+use Rattle.cluster_core.proofs.rings.turn_at.Goals as goal
 
 pub returns : goal.returns
 returns c =

@@ -3,7 +3,7 @@ use Rattle.time_ring.specs.declared.ticket.Ticket.{Ticket}
 use Rattle.time_ring.specs.Ring.{Ring, with_ticket}
 use Rattle.cluster_core.specs.Commits.{rings_with}
 use Rattle.cluster_core.proofs.KeptLemmas.{slots-changed}
-use Rattle.cluster_core.proofs.commit.put_at.Goals as goal
+use Rattle.cluster_core.proofs.rings.put_at.Goals as goal
 
 pub returns-in-Some : goal.returns-in-Some
 returns-in-Some c =

@@ -1,7 +1,7 @@
 use Rattle.std.proofs.Common.{arith}
 use Rattle.cluster_core.specs.Commits.{entered}
 use Rattle.cluster_core.proofs.KeptLemmas.{pools-changed}
-use Rattle.cluster_core.proofs.commit.enter_at.Goals as goal
+use Rattle.cluster_core.proofs.pools.enter_at.Goals as goal
 
 pub returns : goal.returns
 returns c =

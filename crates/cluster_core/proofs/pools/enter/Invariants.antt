@@ -1,6 +1,6 @@
 use Rattle.std.proofs.Common.{◌≡◌, ◌≤◌, ◌+◌, length, take}
 use Rattle.cluster_core.specs.Commits.{entered}
-use Rattle.cluster_core.proofs.commit.enter.Given as goal
+use Rattle.cluster_core.proofs.pools.enter.Given as goal
 
 abbrev pub invariant-loop-log : goal.invariant-loop-log
 invariant-loop-log l = record {

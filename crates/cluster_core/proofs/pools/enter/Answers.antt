@@ -3,7 +3,7 @@ use Rattle.trigger_pool.specs.Pool.{Queues, with_log, answer_at}
 use Rattle.trigger_pool.specs.Reports.{late_count}
 use Rattle.cluster_core.specs.Commits.{pools_with}
 use Rattle.cluster_core.proofs.EnteredLemmas.{entered-more}
-use Rattle.cluster_core.proofs.commit.enter.Goals as goal
+use Rattle.cluster_core.proofs.pools.enter.Goals as goal
 
 pub loop-log-preserved : goal.loop-log-preserved
 loop-log-preserved c = record {

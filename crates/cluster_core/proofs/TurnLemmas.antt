@@ -173,18 +173,18 @@ spent-turn kept h admin at queued below here running over s =
 
 -- nothing is opened or fired yet, from a last log id and a length of the fast pool on
 pub record StartsAt (last queued : ℕ) (x : Turned) : Type 0 where
-  pub last : x.openings.last ≡ last
-  pub queued : x.openings.queued ≡ queued
+  pub ids : x.openings.last ≡ last
+  pub pool : x.openings.queued ≡ queued
   pub puts : x.openings.puts.items ≡ []
   pub entering : x.openings.entering.items ≡ []
   pub fired : x.fired.items ≡ []
 
--- all tickets of a turn were fired
+-- what a turn that fires these tickets changes and tells
 pub record Turns (kept : Kept) (at queued : ℕ) (tickets : List RingTicket) (changes : List Change) (entering : List Entering) (fired : List FiredTicket) : Type 0 where
   pub ids : kept.tables.last.log + length (shots_all kept.tables at tickets) ≤ 9223372036854775807
-  pub changes : changes ≡ fired_changes kept queued (shots_all kept.tables at tickets)
-  pub entering : entering ≡ map entering_of (placed_from kept.tables.last.log queued (shots_all kept.tables at tickets))
-  pub fired : fired ≡ told_all kept.tables at kept.tables.last.log queued tickets
+  pub rows : changes ≡ fired_changes kept queued (shots_all kept.tables at tickets)
+  pub pools : entering ≡ map entering_of (placed_from kept.tables.last.log queued (shots_all kept.tables at tickets))
+  pub told : fired ≡ told_all kept.tables at kept.tables.last.log queued tickets
 
 -- they are where they fired one after another
 pub turns-all : (kept : Kept) (at queued : ℕ) (tickets : List RingTicket) (x y : Turned) (changes : List Change) → StartsAt kept.tables.last.log queued x → FiresBehind kept.tables at tickets x y
@@ -192,15 +192,15 @@ pub turns-all : (kept : Kept) (at queued : ℕ) (tickets : List RingTicket) (x y
 turns-all kept at queued tickets x y changes none fires made =
     let shots = shots_all kept.tables at tickets in
     let placed : placed_from x.openings.last x.openings.queued (shots_all kept.tables at tickets) ≡ placed_from kept.tables.last.log queued (shots_all kept.tables at tickets) =
-    ap (λ n. placed_from n x.openings.queued (shots_all kept.tables at tickets)) none.last ∙ ap (λ n. placed_from kept.tables.last.log n (shots_all kept.tables at tickets)) none.queued in
+    ap (λ n. placed_from n x.openings.queued (shots_all kept.tables at tickets)) none.ids ∙ ap (λ n. placed_from kept.tables.last.log n (shots_all kept.tables at tickets)) none.pool in
     record {
-      ids = omega (arith, fires.opens.ids, fires.opens.room, none.last);
-      changes = made ∙ ap (λ n. opening_changes kept.tables.last n y.openings.puts.items) (fires.opens.ids ∙ ap (λ n. n + length (shots_all kept.tables at tickets)) none.last)
+      ids = omega (arith, fires.opens.ids, fires.opens.room, none.ids);
+      rows = made ∙ ap (λ n. opening_changes kept.tables.last n y.openings.puts.items) (fires.opens.ids ∙ ap (λ n. n + length (shots_all kept.tables at tickets)) none.ids)
           ∙ ap (λ ps. opening_changes kept.tables.last (kept.tables.last.log + length (shots_all kept.tables at tickets)) ps)
           (fires.opens.puts ∙ ap (λ ps. ps ++ map put_of (placed_from x.openings.last x.openings.queued (shots_all kept.tables at tickets))) none.puts ∙ ap (map put_of) placed);
-      entering = fires.opens.entering ∙ ap (λ es. es ++ map entering_of (placed_from x.openings.last x.openings.queued (shots_all kept.tables at tickets))) none.entering ∙ ap (map entering_of) placed;
-      fired = fires.fired ∙ ap (λ fs. fs ++ told_all kept.tables at x.openings.last x.openings.queued tickets) none.fired
-          ∙ ap (λ n. told_all kept.tables at n x.openings.queued tickets) none.last ∙ ap (λ n. told_all kept.tables at kept.tables.last.log n tickets) none.queued;
+      pools = fires.opens.entering ∙ ap (λ es. es ++ map entering_of (placed_from x.openings.last x.openings.queued (shots_all kept.tables at tickets))) none.entering ∙ ap (map entering_of) placed;
+      told = fires.fired ∙ ap (λ fs. fs ++ told_all kept.tables at x.openings.last x.openings.queued tickets) none.fired
+          ∙ ap (λ n. told_all kept.tables at n x.openings.queued tickets) none.ids ∙ ap (λ n. told_all kept.tables at kept.tables.last.log n tickets) none.pool;
     }
 
 -- the cluster after a turn stands for the history with it
@@ -214,11 +214,11 @@ turned-stands kept h admin at queued changes entering fired below here rules tur
       settings = s.settings;
       running = s.running;
       scan = s.scan;
-      tables = ap (applied_all kept.tables) turns.changes
+      tables = ap (applied_all kept.tables) turns.rows
           ∙ fired-tables kept h admin queued (shots_all kept.tables at (turn_tickets kept admin at)) below here rules turns.ids s
           ∙ ap (λ ss. with_logs (records_of h) (last_log h + length ss) (opened_logs h admin ss)) shots;
       rings = ap (λ rings. rings_turned admin (second_of at) rings) s.rings ∙ rings-turn (waiting h) admin (second_of at) below;
-      pools = ap (λ es. pools_after admin es kept.pools) turns.entering
+      pools = ap (λ es. pools_after admin es kept.pools) turns.pools
           ∙ fired-pools_by kept h admin queued (shots_all kept.tables at (turn_tickets kept admin at)) below here s
           ∙ ap (λ ss. map (λ a. only_fast (cond (eqb a admin) (behind h (queue_of h a) ss) (queue_of h a))) admins) shots;
     }
@@ -229,8 +229,14 @@ pub planned-turn : (kept : Kept) (admin at queued : ℕ) (changes : List Change)
     → IsPlanned kept (Turn admin at) (record { reply = reply.Fired fired; changes = changes; node = node.Turns admin (second_of at) entering })
 planned-turn kept admin at queued changes entering fired below here rules turns running =
     planned kept (Turn admin at) (record { reply = reply.Fired fired; changes = changes; node = node.Turns admin (second_of at) entering })
-    (subst (λ cs. AreAllowed kept.tables cs) (sym turns.changes) (fired-allowed kept.tables queued (shots_all kept.tables at (turn_tickets kept admin at)) rules turns.ids)) refl
+    (subst (λ cs. AreAllowed kept.tables cs) (sym turns.rows) (fired-allowed kept.tables queued (shots_all kept.tables at (turn_tickets kept admin at)) rules turns.ids)) refl
     (λ h s. turn-reply kept (accepted h) admin at queued below here (running h s) s
     ∙ ids-left kept.tables.last.log (length (shots_all kept.tables at (turn_tickets kept admin at))) _ turns.ids
-    ∙ ap reply.Fired (sym turns.fired))
+    ∙ ap reply.Fired (sym turns.told))
     (λ h s. turned-stands kept h admin at queued changes entering fired below here rules turns s)
+
+-- two slots that were read are those of the turn
+pub slots-turn : (kept : Kept) (admin at moment : ℕ) (present past : List RingTicket) → moment ≡ at → present ≡ tickets_in (ring_at kept.rings admin) (slot_of_second (second_of moment)) → past ≡ tickets_in (ring_at kept.rings admin) (slot_before (second_of moment))
+    → present ++ past ≡ turn_tickets kept admin at
+slots-turn kept admin at moment present past same now before =
+    ap (λ xs. xs ++ past) now ∙ ap (λ ys. tickets_in (ring_at kept.rings admin) (slot_of_second (second_of moment)) ++ ys) before ∙ ap (λ n. turn_tickets kept admin n) same

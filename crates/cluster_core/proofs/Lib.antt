@@ -6,7 +6,11 @@ pub mod NodeLemmas
 pub mod EnteredLemmas
 pub mod KeptLemmas
 pub mod SoundLemmas
+pub mod OpeningLemmas
+pub mod FiringLemmas
+pub mod FireLemmas
 pub mod CountLemmas
+pub mod TurnLemmas
 pub mod ShownLemmas
 pub mod PutLemmas
 pub mod KeptRules

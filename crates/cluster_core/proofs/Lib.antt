@@ -20,3 +20,5 @@ pub mod GroupLemmas
 pub mod JobLemmas
 pub mod EndingLemmas
 pub mod StopLemmas
+pub mod ScanLemmas
+pub mod StepLemmas

@@ -13,6 +13,7 @@ mod firing;
 mod groups;
 mod ids;
 mod jobs;
+mod looks;
 mod nodes;
 mod opening;
 mod pages;

@@ -25,7 +25,7 @@ set-admin f a v h =
     get_or-set_other (map f admins) a k v v other ∙ at-admin f k v lt ∙ sym (ap (λ b. cond b v (f k)) test))
     (cases_eq k a))
 
-map-same : {X : Type 0} (f g : ℕ → X) → ((x : ℕ) → f x ≡ g x) → (xs : List ℕ) → map f xs ≡ map g xs
+pub map-same : {X : Type 0} (f g : ℕ → X) → ((x : ℕ) → f x ≡ g x) → (xs : List ℕ) → map f xs ≡ map g xs
 map-same f g e [] = refl
 map-same f g e (x ∷ xs) = ap (λ y. y ∷ map f xs) (e x) ∙ ap (λ ys. g x ∷ ys) (map-same f g e xs)
 

@@ -126,7 +126,7 @@ edit-allowed t job row new spec plan edition next rules found made said group =
     )
 
 -- a row in another edition, with another next time
-turn-allowed : (t : Tables) (job : ℕ) (row new : Job) (edition : ℕ) (next : Option ℕ) → KeepsRules t → job_with job t.jobs ≡ Some row → new ≡ turned_row edition next row → AreAllowed t (change.PutJob new ∷ [])
+pub turn-allowed : (t : Tables) (job : ℕ) (row new : Job) (edition : ℕ) (next : Option ℕ) → KeepsRules t → job_with job t.jobs ≡ Some row → new ≡ turned_row edition next row → AreAllowed t (change.PutJob new ∷ [])
 turn-allowed t job row new edition next rules found made =
     edit-allowed t job row new row.spec row.schedule edition next rules found made (found-all HasItsSchedule (λ (x : Job). x.id) job t.jobs row rules.jobs.schedules found) (found-all (HasGroup t.groups) (λ (x : Job). x.id) job t.jobs row rules.jobs.groups_exist found)
 
@@ -142,7 +142,7 @@ start-reply kept h at job s =
     ∙ ap (λ (x : Settings). running_reply x.offset at (job_with job (jobs_of (accepted h)))) s.settings)
 
 -- the row of a present job, in a history that is stood for
-row-stands : (kept : Kept) (h : History) (job : ℕ) (row : Job) → job_with job kept.tables.jobs ≡ Some row → Stands kept h → job_with job (jobs_of h) ≡ Some row
+pub row-stands : (kept : Kept) (h : History) (job : ℕ) (row : Job) → job_with job kept.tables.jobs ≡ Some row → Stands kept h → job_with job (jobs_of h) ≡ Some row
 row-stands kept h job row found s = subst (λ (t : Tables). job_with job t.jobs ≡ Some row) s.tables found
 
 rows-rise : (kept : Kept) (h : History) → Stands kept h → RisesFrom (λ x. x.id) 0 (jobs_of h)

@@ -1,13 +1,13 @@
 -- Plans that change nothing, and plans of changes.
-use Rattle.std.proofs.Common.{◌≡◌, [], false, sym, subst}
-use Rattle.std.specs.Prelude.{Bool}
+use Rattle.std.proofs.Common.{◌≡◌, ℕ, [], Bool, true, false, sym, ap, subst}
 use Rattle.job_values.specs.declared.cluster.ClusterEvent.{ClusterEvent}
 use Rattle.job_values.specs.declared.cluster.ClusterReply.{ClusterReply}
 use Rattle.job_values.specs.declared.cluster.ClusterReply.TheVariants.{Refused}
 use Rattle.job_values.specs.declared.cluster.ClusterRefusal.{ClusterRefusal}
+use Rattle.job_values.specs.declared.cluster.ClusterRefusal.TheVariants.{NodeStopped}
 use Rattle.job_records.specs.Changes.{AreAllowed}
 use Rattle.cluster_history.specs.History.{History, After, accepted, is_refusal, with_entry}
-use Rattle.cluster_history.specs.Replies.{reply_of, refused}
+use Rattle.cluster_history.specs.Replies.{reply_of, refused, if_running}
 use Rattle.cluster_core.specs.declared.prepared.NodeChange.TheVariants as node
 use Rattle.cluster_core.specs.declared.prepared.Prepared.{Prepared}
 use Rattle.cluster_core.specs.Kept.{Kept}
@@ -38,3 +38,11 @@ pub planned-answered : (kept : Kept) (e : ClusterEvent) (r : ClusterReply) → i
     → ((h : History) → Stands kept h → Stands kept (After h e r))
     → IsPlanned kept e (record { reply = r; changes = []; node = node.Nothing })
 planned-answered kept e r accepts replies stands = planned kept e (record { reply = r; changes = []; node = node.Nothing }) tt accepts replies stands
+
+-- an admin that does not run is refused
+pub refused-stopped : (runs : Bool) (admin : ℕ) (answer : ClusterReply) → runs ≡ false → if_running runs admin answer ≡ refused (NodeStopped admin)
+refused-stopped runs admin answer stopped = ap (λ b. if_running b admin answer) stopped
+
+-- one that runs is answered
+pub answered-running : (runs : Bool) (admin : ℕ) (answer : ClusterReply) → runs ≡ true → if_running runs admin answer ≡ answer
+answered-running runs admin answer running = ap (λ b. if_running b admin answer) running

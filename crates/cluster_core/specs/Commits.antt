@@ -32,6 +32,10 @@ abbrev pub rings_with : ℕ → Option Ticket → List (List (List Ticket)) → 
 rings_with admin None rings = rings
 rings_with admin (Some ticket) rings = slice_set rings admin (with_ticket (ring_at rings admin) ticket)
 
+-- the rings of all admins after a turn of that of one at a second
+abbrev pub rings_turned : ℕ → ℕ → List (List (List Ticket)) → List (List (List Ticket))
+rings_turned admin second rings = slice_set rings admin (after_turn (ring_at rings admin) second)
+
 -- what an event changes beside the rows
 abbrev pub node_changed : NodeChange → Kept → Kept
 node_changed node.Nothing kept = kept
@@ -40,7 +44,7 @@ node_changed (node.Stops admin) kept = record kept { running = slice_set kept.ru
 node_changed node.StopsAll kept = record kept { running = map (λ running. false) kept.running; scan = None; rings = map (λ ring. no_tickets) kept.rings; pools = map (λ pools. no_logs) kept.pools }
 node_changed (node.Begins scan) kept = record kept { scan = Some scan }
 node_changed (node.Steps admin put logs) kept = record kept { scan = stepped kept.scan; rings = rings_with admin put kept.rings; pools = pools_after admin logs kept.pools }
-node_changed (node.Turns admin second logs) kept = record kept { rings = slice_set kept.rings admin (after_turn (ring_at kept.rings admin) second); pools = pools_after admin logs kept.pools }
+node_changed (node.Turns admin second logs) kept = record kept { rings = rings_turned admin second kept.rings; pools = pools_after admin logs kept.pools }
 node_changed (node.Fires admin logs) kept = record kept { pools = pools_after admin logs kept.pools }
 
 -- what is kept after a prepared event

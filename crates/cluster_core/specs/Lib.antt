@@ -3,4 +3,8 @@ pub mod Commits
 pub mod Stands
 pub mod Plans
 pub mod Steps
+pub mod Openings
+pub mod Firing
+pub mod Turning
 pub mod Edits
+pub mod Endings

@@ -1,5 +1,6 @@
 //! The cluster: what it keeps, and the calls that change it.
-ghost use Rattle.std.specs.Prelude.{◌≡◌, IfOk, OnErr};
+ghost use Rattle.std.specs.Prelude.{◌≡◌, IfOk, OnErr, replicate, false};
+ghost use Rattle.cluster_history.specs.declared.limits.TheConstants.{ADMINS};
 
 use super::pools::no_pools;
 use super::prepared::Prepared;
@@ -36,6 +37,13 @@ impl Model for Cluster {
     ghost invariant = { λ c. IsSound (kept_of (record { settings = c.settings; running = c.running.items; records = c.records; scan = c.scan; rings = c.rings.items; pools = c.pools.items })) };
 }
 
+/// No admin runs.
+fn none_running(alloc: Global) -> Result<Vec<bool>, NoMemory>
+    ensures { IfOk result (λ running. running.items ≡ replicate ADMINS false) }
+{
+    vec![in alloc; false; ADMINS].map_err(|_| NoMemory)
+}
+
 impl Cluster {
     ghost use Rattle.cluster_history.specs.History.{History, Begin, accepted, empty_opening};
     ghost use Rattle.cluster_history.specs.Nodes.{runs};
@@ -48,7 +56,7 @@ impl Cluster {
     pub fn new(alloc: Global, settings: Settings) -> Result<Cluster, NoMemory>
         ensures { IfOk result (λ cluster. StandsFor cluster (Begin (empty_opening settings))) }
     {
-        let running = vec![in alloc; false; ADMINS].map_err(|_| NoMemory)?;
+        let running = none_running(alloc)?;
         let rings = empty_rings(alloc)?;
         let pools = no_pools(alloc)?;
         Ok(Cluster {
@@ -116,7 +124,7 @@ impl Cluster {
             node,
         } = prepared;
         self.change_node(node);
-        let _ = changes; // self.records.apply(changes) once job_records has it
+        self.records.apply(changes);
         reply
     }
 

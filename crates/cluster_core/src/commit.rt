@@ -1,30 +1,19 @@
 //! What a prepared event changes beside the rows.
-ghost use Rattle.std.specs.Prelude.{◌≡◌, ◌≤◌, length, map, false};
-ghost use Rattle.time_ring.specs.Ring.{no_tickets};
-ghost use Rattle.trigger_pool.specs.Pool.{no_logs};
+ghost use Rattle.std.specs.Prelude.{◌≡◌, length, replicate, false};
 ghost use Rattle.cluster_history.specs.Pages.{unless_owner};
 ghost use Rattle.cluster_core.specs.declared.prepared.NodeChange.TheVariants as node;
 ghost use Rattle.cluster_core.specs.Kept.{kept_of};
-ghost use Rattle.cluster_core.specs.Commits.{node_changed, entered, HasRoomFor};
+ghost use Rattle.cluster_core.specs.Commits.{node_changed, HasRoomFor};
 
 use super::cluster::Cluster;
 use super::pages::step_on;
-use super::prepared::{Entering, NodeChange};
+use super::pools::{empty_pools, enter_at};
+use super::prepared::NodeChange;
+use super::rings::{clear_rings, put_at, turn_at};
 use cluster_history::Scan;
-use job_values::{AdminNo, Seq};
-use std::alloc::Global;
-use time_ring::TimeRing;
+use job_values::AdminNo;
 use trigger_pool::Pools;
 
-/// Puts logs into the pools of an admin.
-fn enter(pools: &mut Pools, logs: &Seq<Entering>)
-    requires { length logs.now ≤ pools.old.room.logs }
-    ensures { pools.new.kept ≡ entered pools.old.kept logs.now }
-{
-    for log in logs.as_slice() {
-        pools.add(log.log, log.job);
-    }
-}
 
 /// A stop of its owner ends the scan.
 fn close_of(scan: &mut Option<Scan>, admin: AdminNo)
@@ -39,28 +28,10 @@ fn close_of(scan: &mut Option<Scan>, admin: AdminNo)
 
 /// No admin runs.
 fn stop_running(running: &mut Vec<bool>)
-    ensures { running.new.items ≡ map (λ running. false) running.old.items }
+    ensures { running.new.items ≡ replicate (length running.old.items) false }
 {
-    for one in running {
+    for one in running.iter_mut() {
         *one = false;
-    }
-}
-
-/// Drops the tickets of all rings.
-fn clear_rings(rings: &mut Vec<TimeRing>)
-    ensures { map (λ ring. ring.slots) rings.new.items ≡ map (λ ring. no_tickets) (map (λ ring. ring.slots) rings.old.items) }
-{
-    for ring in rings {
-        ring.clear();
-    }
-}
-
-/// Drops the logs of all pools.
-fn empty_pools(alloc: Global, pools: &mut Vec<Pools>)
-    ensures { map (λ pool. pool.kept) pools.new.items ≡ map (λ pools. no_logs) (map (λ pool. pool.kept) pools.old.items) }
-{
-    for one in pools {
-        *one = Pools::new(alloc);
     }
 }
 
@@ -101,19 +72,15 @@ impl Cluster {
             NodeChange::StopsAll => self.stop_all(),
             NodeChange::Begins(scan) => self.scan = Some(scan),
             NodeChange::Steps(admin, put, logs) => {
-                let place = admin.get() as usize;
                 step_on(&mut self.scan);
-                if let Some(ticket) = put {
-                    self.rings[place].put(ticket);
-                }
-                enter(&mut self.pools[place], &logs);
+                put_at(&mut self.rings, admin, put);
+                enter_at(&mut self.pools, admin, &logs);
             }
             NodeChange::Turns(admin, second, logs) => {
-                let place = admin.get() as usize;
-                self.rings[place].take(second);
-                enter(&mut self.pools[place], &logs);
+                turn_at(&mut self.rings, admin, second);
+                enter_at(&mut self.pools, admin, &logs);
             }
-            NodeChange::Fires(admin, logs) => enter(&mut self.pools[admin.get() as usize], &logs),
+            NodeChange::Fires(admin, logs) => enter_at(&mut self.pools, admin, &logs),
         }
     }
 }

@@ -1,7 +1,6 @@
 //! What is counted.
-ghost use Rattle.std.specs.Prelude.{◌≡◌, ◌≤◌, ◌-◌, ◌^◌, All, length, map, min, sum, count_by};
+ghost use Rattle.std.specs.Prelude.{◌≡◌, ◌<◌, ◌^◌, length, min, sum_by, count_by};
 ghost use Rattle.time_ring.specs.Ring.{ticket_count};
-ghost use Rattle.cluster_history.specs.declared.limits.TheConstants.{ADMINS, MOST_FAST};
 ghost use Rattle.cluster_history.specs.History.{History};
 ghost use Rattle.cluster_history.specs.Logs.{is_failed, is_settled};
 ghost use Rattle.cluster_history.specs.Runs.{report_of};
@@ -45,7 +44,7 @@ fn count_failed(logs: &[Log]) -> u64
 
 /// How many tickets wait in all rings.
 fn count_waiting(rings: &Vec<TimeRing>) -> u64
-    ensures { result ≡ min (sum (map (λ ring. ticket_count ring.slots) rings.now.items)) (2 ^ 64 - 1) }
+    ensures { result ≡ min (sum_by (λ ring. ticket_count ring.slots) rings.now.items) (u64.MAX) }
 {
     let mut waiting: u64 = 0;
     for ring in rings {
@@ -56,8 +55,8 @@ fn count_waiting(rings: &Vec<TimeRing>) -> u64
 
 /// How many logs are in all pools.
 fn count_queued(pools: &Vec<Pools>) -> u64
-    requires { All (λ pool. length pool.kept.fast ≤ MOST_FAST) pools.now.items × (length pools.now.items ≡ ADMINS) }
-    ensures { result ≡ sum (map (λ pool. length pool.kept.fast) pools.now.items) }
+    requires { sum_by (λ pool. length pool.kept.fast) pools.now.items < 2 ^ 64 }
+    ensures { result ≡ sum_by (λ pool. length pool.kept.fast) pools.now.items }
 {
     let mut queued = 0;
     for pool in pools {

@@ -5,7 +5,9 @@ ghost use Rattle.cluster_core.specs.Kept.{kept_of};
 ghost use Rattle.cluster_core.specs.Commits.{CanCommit};
 
 use super::cluster::Cluster;
+use super::pools::make_place;
 use super::prepared::{NodeChange, Prepared};
+use super::rings::reserve_at;
 use job_values::NoMemory;
 
 impl Cluster {
@@ -14,19 +16,14 @@ impl Cluster {
         ensures can { OnOk result (AreAllowed self.old.records.kept prepared.now.changes → CanCommit self.new prepared.now) }
         ensures same { kept_of self.new ≡ kept_of self.old }
     {
-        // self.records.reserve(&prepared.changes)? once job_records has it
+        self.records.reserve(&prepared.changes)?;
         match &prepared.node {
             NodeChange::Steps(admin, put, logs) => {
-                let place = admin.get() as usize;
-                if let Some(ticket) = put {
-                    self.rings[place].reserve(ticket.due, 1)?;
-                }
-                self.pools[place].reserve(logs.len())
+                reserve_at(&mut self.rings, *admin, put)?;
+                make_place(&mut self.pools, *admin, logs.len())
             }
-            NodeChange::Turns(admin, _, logs) => {
-                self.pools[admin.get() as usize].reserve(logs.len())
-            }
-            NodeChange::Fires(admin, logs) => self.pools[admin.get() as usize].reserve(logs.len()),
+            NodeChange::Turns(admin, _, logs) => make_place(&mut self.pools, *admin, logs.len()),
+            NodeChange::Fires(admin, logs) => make_place(&mut self.pools, *admin, logs.len()),
             _ => Ok(()),
         }
     }

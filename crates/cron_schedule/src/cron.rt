@@ -1,5 +1,5 @@
 //! A cron text's items with tables of their sets, and the search for its due times.
-ghost use Rattle.std.specs.Prelude.{◌≡◌, ◌+◌, ◌-◌, ◌<◌, ◌≤◌, ◌&&◌, ◌⊎◌, IfOk, IfSome, IfNone, pos, ◌<ℤ◌};
+ghost use Rattle.std.specs.Prelude.{◌≡◌, ◌+◌, ◌-◌, ◌<◌, ◌≤◌, ◌&&◌, ◌⊎◌, ◌↔◌, IsTrue, IfOk, IfSome, IfNone, pos, ◌<ℤ◌};
 ghost use Rattle.cron_schedule.specs.First.{IsFirst};
 ghost use Rattle.cron_schedule.specs.Calendar.{weekday_on};
 ghost use Rattle.cron_schedule.specs.CronTables.{is_plain, are_plain};
@@ -94,6 +94,13 @@ impl Cron {
             years: self.years,
             plain: self.plain,
         })
+    }
+
+    /// Whether the other has the same items.
+    pub fn is_same(&self, other: &Cron) -> bool
+        ensures { IsTrue result ↔ (self.now ≡ other.now) }
+    {
+        are_same(self.items.as_slice(), other.items.as_slice())
     }
 
     fn is_year_in(&self, date: &Date) -> bool
@@ -214,6 +221,26 @@ impl Cron {
         let day = self.first_day(day + 1, steps)?;
         Some(day * 86_400 + second)
     }
+}
+
+fn is_same_item(item: FieldItem, other: FieldItem) -> bool
+    ensures { IsTrue result ↔ (item ≡ other) }
+{
+    item == other
+}
+
+fn are_same(items: &[FieldItem], others: &[FieldItem]) -> bool
+    ensures { IsTrue result ↔ (items.now ≡ others.now) }
+{
+    if items.len() != others.len() {
+        return false;
+    }
+    for (place, item) in items.iter().enumerate() {
+        if !is_same_item(*item, others[place]) {
+            return false;
+        }
+    }
+    true
 }
 
 fn years_since_1970(date: &Date) -> Option<u32>

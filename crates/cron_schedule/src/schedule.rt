@@ -108,6 +108,18 @@ impl Schedule {
         }
     }
 
+    /// Whether the other schedule says the same.
+    pub fn is_same(&self, other: &Schedule) -> bool
+        ensures { IsTrue result ↔ (self.now ≡ other.now) }
+    {
+        match (&self.plan, &other.plan) {
+            (Plan::Never, Plan::Never) => true,
+            (Plan::Every(seconds), Plan::Every(others)) => *seconds == *others,
+            (Plan::Cron(cron), Plan::Cron(other)) => cron.is_same(other),
+            _ => false,
+        }
+    }
+
     /// Another schedule that says the same.
     pub fn copy(&self, alloc: Global) -> Result<Schedule, NoMemory>
         ensures { IfOk result (λ s. s ≡ self.now) }

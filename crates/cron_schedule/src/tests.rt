@@ -30,6 +30,8 @@ fn fixed_rates_and_none(rt: HostRuntime) -> Result<(), ParseFault> {
     assert_eq!(rt; number(rate.after(last, offset)), 0);
     let never = read(rt.alloc(), ScheduleKind::Never, "any text")?;
     assert_eq!(rt; number(never.after(start, offset)), 0);
+    assert!(rt; rate.is_same(&read(rt.alloc(), ScheduleKind::FixRate, "10")?));
+    assert!(rt; !rate.is_same(&never));
     Ok(())
 }
 

@@ -2,3 +2,5 @@ pub mod RowLemmas
 pub mod SeatLemmas
 pub mod OrderLemmas
 pub mod RunLemmas
+pub mod PutLemmas
+pub mod Keeping

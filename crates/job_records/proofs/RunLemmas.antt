@@ -100,7 +100,7 @@ allowed-rest t u n cs is h = rw is (allowed-after t (take n cs) (drop n cs) (rw 
 pub room-rest : (old new : Room) (n : ℕ) (cs : List Change) → KeepsRoom old new (take n cs) → HasRoom old cs → HasRoom new (drop n cs)
 room-rest old new n cs keeps has =
     let parts : (p : Change → Bool) → count_by p cs ≡ count_by p (take n cs) + count_by p (drop n cs) =
-      λ p. ap (count_by p) (sym (take-append-drop n cs)) ∙ sum_by-append (λ c. cond (p c) 1 0) (take n cs) (drop n cs) in
+    λ p. ap (count_by p) (sym (take-append-drop n cs)) ∙ sum_by-append (λ c. cond (p c) 1 0) (take n cs) (drop n cs) in
     record {
       groups = omega (arith, parts puts_group, keeps.groups, has.groups);
       jobs = omega (arith, parts puts_job, keeps.jobs, has.jobs);

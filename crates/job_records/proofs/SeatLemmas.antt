@@ -45,17 +45,20 @@ seat-searched order rows (Err at) split within found = (within, found (non_decre
 
 -- above the last row is the seat behind it
 pub seat-behind : {R : Type 0} (order : R → Ordering) (rows : List R) (last : R) → IsSplitBy order rows → last ≡ get_or rows (length rows - 1) last → order last ≡ Less → IsSeat order rows (Err (length rows))
-seat-behind order rows last split is less =
-    (omega arith,
-    (λ k d above below.
-    let here : order (get_or rows (length rows - 1) d) ≡ Less = ap order (get_or_default rows (length rows - 1) d last (omega arith) ∙ sym is) ∙ less in
-    ⊎_elim (λ (before : k < length rows - 1).
-    ⊎_elim (λ l. l) (λ (greater : order (get_or rows (length rows - 1) d) ≡ Greater). cc) (split k (length rows - 1) d before (omega arith)))
-    (λ (after : length rows - 1 ≤ k).
-    let same : k ≡ length rows - 1 = omega arith in
-    ap (λ (n : ℕ). order (get_or rows n d)) same ∙ here)
-    (cases_lt k (length rows - 1)),
-    λ k d above below. absurd (omega arith)))
+seat-behind order rows last split is less = (
+  omega arith,
+  (
+    λ k d above below.
+        let here : order (get_or rows (length rows - 1) d) ≡ Less = ap order (get_or_default rows (length rows - 1) d last (omega arith) ∙ sym is) ∙ less in
+        ⊎_elim (λ (before : k < length rows - 1).
+        ⊎_elim (λ l. l) (λ (greater : order (get_or rows (length rows - 1) d) ≡ Greater). cc) (split k (length rows - 1) d before (omega arith)))
+        (λ (after : length rows - 1 ≤ k).
+        let same : k ≡ length rows - 1 = omega arith in
+        ap (λ (n : ℕ). order (get_or rows n d)) same ∙ here)
+        (cases_lt k (length rows - 1)),
+    λ k d above below. absurd (omega arith),
+  ),
+)
 
 ordered : {X : Type 0} (a b c : X) (o p : Ordering) → o ≡ p → match_ordering o a b c ≡ match_ordering p a b c
 ordered a b c o p e = ap (λ q. match_ordering q a b c) e

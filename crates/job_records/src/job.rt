@@ -1,8 +1,11 @@
 //! The row of a job.
 
+ghost use Rattle.std.specs.Prelude.{◌≡◌, IfOk};
+
 use super::row::Row;
 use cron_schedule::Schedule;
-use job_values::{Edition, JobId, JobSpec, Moment};
+use job_values::{Edition, JobId, JobSpec, Moment, NoMemory};
+use std::alloc::Global;
 
 /// A job. It runs exactly where it has a next time, and its schedule is what its spec's text says.
 #[derive(Debug, Drop)]
@@ -21,5 +24,23 @@ impl Row for Job {
 
     fn id_number(&self) -> u64 {
         self.id.get() as u64
+    }
+}
+
+impl Job {
+    /// Another row that says the same.
+    pub fn copy(&self, alloc: Global) -> Result<Job, NoMemory>
+        ensures { IfOk result (λ row. row ≡ self.now) }
+    {
+        let spec = self.spec.copy(alloc)?;
+        let schedule = self.schedule.copy(alloc)?;
+        Ok(Job {
+            id: self.id,
+            spec,
+            schedule,
+            running: self.running,
+            edition: self.edition,
+            next: self.next,
+        })
     }
 }

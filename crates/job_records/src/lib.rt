@@ -13,6 +13,7 @@ pub mod limits;
 pub mod log;
 pub mod records;
 pub mod registry;
+mod room;
 pub mod row;
 mod runs;
 mod seat;

@@ -1,10 +1,13 @@
 //! The row of a log.
 
+ghost use Rattle.std.specs.Prelude.{◌≡◌, IfOk};
+
 use super::row::Row;
 use job_values::{
-    Address, Block, GroupId, HandlerName, JobId, LogId, Moment, ParamText, ResultText, Retries,
-    Route, ShardNo, Timeout, TriggerKind,
+    Address, Block, GroupId, HandlerName, JobId, LogId, Moment, NoMemory, ParamText, ResultText,
+    Retries, Route, ShardNo, Timeout, TriggerKind,
 };
+use std::alloc::Global;
 
 /// One run of a job, from its firing to its result.
 #[derive(Debug, Drop)]
@@ -43,5 +46,51 @@ impl Row for Log {
 
     fn id_number(&self) -> u64 {
         self.id.get()
+    }
+}
+
+impl Log {
+    /// Another row that says the same.
+    pub fn copy(&self, alloc: Global) -> Result<Log, NoMemory>
+        ensures { IfOk result (λ row. row ≡ self.now) }
+    {
+        let address = copy_address(alloc, &self.address)?;
+        let handler = self.handler.copy(alloc)?;
+        let param = self.param.copy(alloc)?;
+        let result_text = self.result_text.copy(alloc)?;
+        Ok(Log {
+            id: self.id,
+            job: self.job,
+            group: self.group,
+            address,
+            handler,
+            param,
+            block: self.block,
+            route: self.route,
+            timeout: self.timeout,
+            index: self.index,
+            total: self.total,
+            retries: self.retries,
+            kind: self.kind,
+            time: self.time,
+            trigger_code: self.trigger_code,
+            result_time: self.result_time,
+            result_code: self.result_code,
+            result_text,
+            marked: self.marked,
+        })
+    }
+}
+
+/// Another address that says the same, where there is one.
+fn copy_address(alloc: Global, address: &Option<Address>) -> Result<Option<Address>, NoMemory>
+    ensures { IfOk result (λ copy. copy ≡ address.now) }
+{
+    match address {
+        Some(address) => {
+            let copy = address.copy(alloc)?;
+            Ok(Some(copy))
+        }
+        None => Ok(None),
     }
 }

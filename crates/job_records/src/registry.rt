@@ -1,6 +1,9 @@
 //! The row of a registration.
 
-use job_values::{Moment, RegistryText};
+ghost use Rattle.std.specs.Prelude.{◌≡◌, IfOk};
+
+use job_values::{Moment, NoMemory, RegistryText};
+use std::alloc::Global;
 
 /// An executor that said it is there, and when it said so last.
 #[derive(Debug, Drop)]
@@ -10,4 +13,19 @@ pub struct RegistryRow {
     /// The executor's address.
     pub value: RegistryText,
     pub beat: Moment,
+}
+
+impl RegistryRow {
+    /// Another row that says the same.
+    pub fn copy(&self, alloc: Global) -> Result<RegistryRow, NoMemory>
+        ensures { IfOk result (λ row. row ≡ self.now) }
+    {
+        let key = self.key.copy(alloc)?;
+        let value = self.value.copy(alloc)?;
+        Ok(RegistryRow {
+            key,
+            value,
+            beat: self.beat,
+        })
+    }
 }

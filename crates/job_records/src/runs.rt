@@ -64,7 +64,9 @@ pub(crate) fn drop_run<R: Row + Drop>(rows: &mut Vec<R>, drops: &[Change])
     ensures dropped { rows.new.items ≡ undropped R.id_of drops.now rows.old.items }
     ensures room { vec_capacity rows.old - vec_len rows.old ≤ vec_capacity rows.new - vec_len rows.new }
 {
-    rows.retain(|row| -> bool
-        requires { RisesFrom dropped_id 0 drops.now }
-    { !is_dropped(drops, row.id_number()) });
+    rows.retain(
+        |row| -> bool
+            requires { RisesFrom dropped_id 0 drops.now }
+        { !is_dropped(drops, row.id_number()) },
+    );
 }

@@ -20,7 +20,7 @@ loop-place-preserved c =
     let change = c.index-changes-place.result in
     let front = take c.loop-place.place c.args.changes.now in
     let more : take (c.loop-place.place + 1) c.args.changes.now ≡ front ++ change ∷ [] =
-      take_more c.args.changes.now c.loop-place.place change (omega arith) ∙ ap (λ x. front ++ x ∷ []) (sym c.index-changes-place.is) in
+    take_more c.args.changes.now c.loop-place.place change (omega arith) ∙ ap (λ x. front ++ x ∷ []) (sym c.index-changes-place.is) in
     let drop : is_drop_of c.args.kind change ≡ true = sym c.is_drop.ensures ∙ c.if-not-is_drop.false in
     record {
       rising = rw (more, c.id_number-id.ensures) (rising-push dropped_id 0 c.loop-place.last front change c.loop-place.invariant.rising (omega arith));

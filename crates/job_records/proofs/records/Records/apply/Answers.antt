@@ -10,7 +10,7 @@ loop-at-preserved c =
     let new = c.apply_next-at.new.self.kept in
     let left = drop c.loop-at.at c.loop-at.changes.items in
     let rest : drop (c.loop-at.at + count) c.apply_next-at.new.changes.items ≡ drop count left =
-      c.apply_next-at.ensures.rest ∙ sym (drop-drop count c.loop-at.at c.loop-at.changes.items) in
+    c.apply_next-at.ensures.rest ∙ sym (drop-drop count c.loop-at.at c.loop-at.changes.items) in
     record {
       within = omega arith;
       kept = rw rest (applied_all-rest old new count left c.apply_next-at.ensures.kept ∙ c.loop-at.invariant.kept);

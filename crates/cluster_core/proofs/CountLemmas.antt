@@ -1,0 +1,57 @@
+-- What is counted over the admins.
+use Rattle.std.proofs.Common.{◌≡◌, ℕ, suc, ◌+◌, ◌*◌, ◌-◌, ◌^◌, ◌<◌, ◌≤◌, List, [], ◌∷◌, map, length, min, refl, sym, ap, ◌∙◌, arith}
+use Rattle.std.specs.Prelude.{sum, sum_by, count_by}
+use Rattle.std.proofs.lemmas.List.Sums.{sum_by-cons, sum-map}
+use Rattle.job_values.specs.declared.job.Report.{Report}
+use Rattle.time_ring.specs.declared.ticket.Ticket.{Ticket}
+use Rattle.time_ring.specs.Ring.{Ring, ticket_count}
+use Rattle.trigger_pool.specs.Pool.{PoolState, Queues}
+use Rattle.cluster_history.specs.History.{History, accepted}
+use Rattle.cluster_history.specs.Jobs.{jobs_of}
+use Rattle.cluster_history.specs.Nodes.{admins}
+use Rattle.cluster_history.specs.Replies.{counted_to}
+use Rattle.cluster_history.specs.Tickets.{waiting, waiting_at}
+use Rattle.cluster_history.specs.Logs.{queue_of, logs_of, is_settled, is_failed}
+use Rattle.cluster_history.specs.Runs.{waiting_in, queued_in, counted}
+use Rattle.cluster_core.specs.Kept.{Kept, ClusterState, kept_of, pools_at}
+use Rattle.cluster_core.specs.Stands.{Stands, ring_of, pools_of}
+use Rattle.cluster_core.proofs.AdminLemmas.{map-same}
+use Rattle.cluster_core.proofs.RingLemmas.{ring-count}
+
+pub map-mapped : {X Y Z : Type 0} (f : Y → Z) (g : X → Y) (xs : List X) → map f (map g xs) ≡ map (λ x. f (g x)) xs
+map-mapped f g [] = refl
+map-mapped f g (x ∷ xs) = ap (λ ys. f (g x) ∷ ys) (map-mapped f g xs)
+
+-- a sum over rows is the sum of what is said of each
+sum-mapped : {X Y : Type 0} (f : Y → ℕ) (g : X → Y) (xs : List X) → sum_by (λ (x : X). f (g x)) xs ≡ sum (map f (map g xs))
+sum-mapped {X} {Y} f g xs = sym (sum-map (λ (x : X). f (g x)) xs) ∙ sym (ap sum (map-mapped f g xs))
+
+-- the tickets in all rings
+pub waiting-counted : (rings : List Ring) (h : History) → map (λ (r : Ring). r.slots) rings ≡ map (ring_of h) admins → sum_by (λ (r : Ring). ticket_count r.slots) rings ≡ waiting_in h
+waiting-counted rings h stands =
+    sum-mapped ticket_count (λ (r : Ring). r.slots) rings ∙ ap (λ slots. sum (map ticket_count slots)) stands
+    ∙ ap sum (map-mapped ticket_count (ring_of h) admins ∙ map-same (λ a. ticket_count (ring_of h a)) (waiting_at h) (λ a. ring-count (waiting h) a) admins)
+
+-- the logs in all pools
+pub queued-counted : (pools : List PoolState) (h : History) → map (λ (p : PoolState). p.kept) pools ≡ map (pools_of h) admins → sum_by (λ (p : PoolState). length p.kept.fast) pools ≡ queued_in h
+queued-counted pools h stands =
+    sum-mapped (λ (q : Queues). length q.fast) (λ (p : PoolState). p.kept) pools ∙ ap (λ queues. sum (map (λ (q : Queues). length q.fast) queues)) stands
+    ∙ ap sum (map-mapped (λ (q : Queues). length q.fast) (pools_of h) admins)
+
+-- no pool has more logs than it takes, so that all have few
+pub queued-few : (pools : List PoolState) → ((a : ℕ) → length (pools_at (map (λ (p : PoolState). p.kept) pools) a).fast ≤ 1000) → sum_by (λ (p : PoolState). length p.kept.fast) pools ≤ 1000 * length pools
+queued-few [] limits = omega arith
+queued-few (pool ∷ pools) limits =
+    let rest : sum_by (λ (p : PoolState). length p.kept.fast) pools ≤ 1000 * length pools = queued-few pools (λ a. limits (suc a)) in
+    let first : length pool.kept.fast ≤ 1000 = limits 0 in
+    omega (arith, sum_by-cons (λ (p : PoolState). length p.kept.fast) pool pools)
+
+-- what is counted, by its parts
+pub counted-by : (h : History) (jobs logs settled failed waiting queued : ℕ) → jobs ≡ length (jobs_of h) → logs ≡ length (logs_of h) → settled ≡ count_by is_settled (logs_of h) → failed ≡ count_by is_failed (logs_of h) → waiting ≡ counted_to (waiting_in h) → queued ≡ queued_in h
+    → ◌≡◌ {A = Report} (record { entries = 0; jobs = jobs; logs = logs; settled = settled; failed = failed; waiting = waiting; queued = queued; held = 0 }) (counted h)
+counted-by h jobs logs settled failed waiting queued a b d e f g =
+    by jobs logs settled failed waiting queued (length (jobs_of h)) (length (logs_of h)) (count_by is_settled (logs_of h)) (count_by is_failed (logs_of h)) (counted_to (waiting_in h)) (queued_in h) a b d e f g
+  where
+    by : (a b d e f g i j k l m n : ℕ) → a ≡ i → b ≡ j → d ≡ k → e ≡ l → f ≡ m → g ≡ n
+        → ◌≡◌ {A = Report} (record { entries = 0; jobs = a; logs = b; settled = d; failed = e; waiting = f; queued = g; held = 0 }) (record { entries = 0; jobs = i; logs = j; settled = k; failed = l; waiting = m; queued = n; held = 0 })
+    by a b d e f g i j k l m n p q r s t u = (cc)

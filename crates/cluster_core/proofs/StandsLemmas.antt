@@ -1,0 +1,36 @@
+-- What is kept of one admin, where a history is stood for; the cluster without rows.
+use Rattle.std.proofs.Common.{◌≡◌, ℕ, ◌<◌, List, [], ◌∷◌, Bool, false, map, get_or, replicate, None, refl, sym, ap, ◌∙◌, arith}
+use Rattle.std.specs.List.{range_with_len}
+use Rattle.time_ring.specs.declared.ticket.Ticket.{Ticket}
+use Rattle.time_ring.specs.Ring.{Ring, no_tickets}
+use Rattle.trigger_pool.specs.Pool.{PoolState, Queues, no_logs}
+use Rattle.job_records.specs.Room.{RecordsState}
+use Rattle.job_records.specs.Tables.{no_rows}
+use Rattle.cluster_history.specs.declared.settings.Settings.{Settings}
+use Rattle.cluster_history.specs.History.{History, Begin, After, accepted, empty_opening}
+use Rattle.cluster_history.specs.Nodes.{runs, admins}
+use Rattle.cluster_core.specs.Kept.{Kept, ClusterState, kept_of, ring_at, pools_at}
+use Rattle.cluster_core.specs.Stands.{Stands, ring_of, pools_of}
+use Rattle.cluster_core.proofs.AdminLemmas.{at-admin}
+use Rattle.cluster_core.proofs.RingLemmas.{rings-stop_all}
+
+-- the ring of an admin
+pub ring-stands : (kept : Kept) (h : History) (admin : ℕ) → admin < 16 → Stands kept h → ring_at kept.rings admin ≡ ring_of h admin
+ring-stands kept h admin below s = ap (λ rings. ring_at rings admin) s.rings ∙ at-admin (ring_of h) admin [] below
+
+-- the pools of an admin
+pub pools-stand : (kept : Kept) (h : History) (admin : ℕ) → admin < 16 → Stands kept h → pools_at kept.pools admin ≡ pools_of h admin
+pools-stand kept h admin below s = ap (λ pools. pools_at pools admin) s.pools ∙ at-admin (pools_of h) admin no_logs below
+
+-- a new cluster stands for its opening
+pub stands-empty : (settings : Settings) (running : List Bool) (records : RecordsState) (rings : List Ring) (pools : List PoolState) → running ≡ replicate 16 false → records.kept ≡ no_rows → map (λ (r : Ring). r.slots) rings ≡ replicate 16 no_tickets → map (λ (p : PoolState). p.kept) pools ≡ replicate 16 no_logs
+    → Stands (kept_of (record { settings = settings; running = running; records = records; scan = None; rings = rings; pools = pools })) (Begin (empty_opening settings))
+stands-empty settings running records rings pools stopped rows empty none = record {
+  opens = record { jobs = omega arith; groups = omega arith; logs = omega arith };
+  settings = refl;
+  running = stopped;
+  tables = rows;
+  scan = refl;
+  rings = empty ∙ rings-stop_all [];
+  pools = none;
+}

@@ -1,0 +1,15 @@
+use Rattle.std.proofs.Common.{◌≡◌, ◌+◌, ◌<◌, length, arith}
+use Rattle.cluster_core.specs.Turning.{shots_all, FiresBehind}
+use Rattle.cluster_core.proofs.TurnLemmas.{fires-second, shots-both}
+use Rattle.cluster_core.proofs.turns.fire_slots.Goals as goal
+
+pub returns-then-not-fits : goal.returns-then-not-fits
+returns-then-not-fits c =
+    let over : 9223372036854775807 < c.args.turned.now.openings.last + length (shots_all c.args.records.now.kept c.args.at c.args.present.now) = rw c.if-not-fits.true at c.in_ok-fits.ensures in
+    let more = shots-both c.args.records.now.kept c.args.at c.args.present.now c.args.past.now in
+    omega arith
+
+pub returns : goal.returns
+returns c =
+    let first : FiresBehind c.args.records.now.kept c.args.at c.args.present.now c.args.turned.now c.fire_tickets.new.turned = rw c.if-not-fits.false at c.in_ok-fits.ensures in
+    fires-second _ _ _ _ _ _ _ c.in_ok-fits-2.fits first c.in_ok-fits-2.ensures

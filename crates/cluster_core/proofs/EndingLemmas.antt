@@ -161,7 +161,7 @@ ends-first t id ids None is rules rest =
 ends-first t id ids (Some log) is rules rest =
     let same : log.id ≡ id = found-id (λ (l : Log). l.id) id t.logs log is in
     let put : put_row (λ (l : Log). l.id) (ended_log log) t.logs ≡ changed (λ (l : Log). l.id) id ended_log t.logs = put-changed (λ (l : Log). l.id) ended_log 0 log (ended_log log) t.logs (rises-from_rising (λ (l : Log). l.id) 0 t.last.log t.logs rules.logs.rising) (subst (λ n. log_with n t.logs ≡ Some log) (sym same) is) refl
-        ∙ ap (λ n. changed (λ (l : Log). l.id) n ended_log t.logs) same in
+    ∙ ap (λ n. changed (λ (l : Log). l.id) n ended_log t.logs) same in
     let least : 1 ≤ id = given-least t id log rules is in
     let most : id ≤ t.last.log = given-most t id log rules is in
     let u : Tables = applied t (PutLog (ended_log log)) in

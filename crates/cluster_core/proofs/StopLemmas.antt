@@ -112,8 +112,8 @@ planned-reopen kept lost ended rules lost_is ended_is =
     (λ h s.
     let now : History = accepted h in
     let waits : lost_of kept.running kept.rings 16 ≡ over_running now (waiting_at now) =
-        over-admins kept now (λ a. ticket_count (ring_at kept.rings a)) (waiting_at now) s (λ a below. ap ticket_count (ring-stands kept now a below s) ∙ ring-count (waiting now) a) in
+    over-admins kept now (λ a. ticket_count (ring_at kept.rings a)) (waiting_at now) s (λ a below. ap ticket_count (ring-stands kept now a below s) ∙ ring-count (waiting now) a) in
     let opens : queued_of kept.running kept.pools 16 ≡ over_running now (open_at now) =
-        over-admins kept now (λ a. length (pools_at kept.pools a).fast) (open_at now) s (λ a below. ap (λ (q : Queues). length q.fast) (pools-stand kept now a below s) ∙ sym (open_count now s.opens a below)) in
+    over-admins kept now (λ a. length (pools_at kept.pools a).fast) (open_at now) s (λ a below. ap (λ (q : Queues). length q.fast) (pools-stand kept now a below s) ∙ sym (open_count now s.opens a below)) in
     ap (λ n. Reopened n (over_running now (open_at now))) (sym (lost_is ∙ ap counted_to waits)) ∙ ap (λ n. Reopened lost n) (sym (ended_is ∙ opens)))
     (λ h s. stands-reopened kept h lost ended _ ends.gives s)

@@ -23,18 +23,30 @@ fn ended(mut log: Log) -> Log
 }
 
 /// Ends a log, if its row is there.
-fn end_log(alloc: Global, records: &Records, id: LogId, changes: &mut Vec<Change>) -> Result<(), NoMemory>
+fn end_log(
+    alloc: Global,
+    records: &Records,
+    id: LogId,
+    changes: &mut Vec<Change>,
+) -> Result<(), NoMemory>
     ensures { OnOk result (changes.new.items ≡ changes.old.items ++ ending_of (log_with id records.now.kept.logs)) }
 {
     let Some(row) = records.log(id) else {
         return Ok(());
     };
     let row = row.copy(alloc)?;
-    changes.push(Change::PutLog(ended(row))).map_err(|_| NoMemory)
+    changes
+        .push(Change::PutLog(ended(row)))
+        .map_err(|_| NoMemory)
 }
 
 /// Ends the logs of a queue.
-pub fn end_logs(alloc: Global, records: &Records, queue: &VecDeque<LogId>, changes: &mut Vec<Change>) -> Result<(), NoMemory>
+pub fn end_logs(
+    alloc: Global,
+    records: &Records,
+    queue: &VecDeque<LogId>,
+    changes: &mut Vec<Change>,
+) -> Result<(), NoMemory>
     ensures { OnOk result (changes.new.items ≡ changes.old.items ++ endings records.now.kept.logs queue.now.items) }
 {
     for at in 0..queue.len() {
@@ -44,7 +56,12 @@ pub fn end_logs(alloc: Global, records: &Records, queue: &VecDeque<LogId>, chang
 }
 
 /// Ends the logs of all fast pools.
-pub fn end_all(alloc: Global, records: &Records, pools: &Vec<Pools>, changes: &mut Vec<Change>) -> Result<(), NoMemory>
+pub fn end_all(
+    alloc: Global,
+    records: &Records,
+    pools: &Vec<Pools>,
+    changes: &mut Vec<Change>,
+) -> Result<(), NoMemory>
     ensures { OnOk result (changes.new.items ≡ changes.old.items ++ endings records.now.kept.logs (concat (map (λ pool. pool.kept.fast) pools.now.items))) }
 {
     for pool in pools {

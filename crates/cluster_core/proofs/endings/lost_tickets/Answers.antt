@@ -14,7 +14,7 @@ loop-at-preserved c =
     let at : ℕ = c.loop-at.at in
     let before : c.loop-at.lost ≡ min (lost_of running slots at) (2 ^ 64 - 1) = c.loop-at.invariant in
     elim c.if-index.branch [
-      then-index w ↦
+      | then-index w ↦
           let more : lost_of running slots (at + 1) ≡ lost_of running slots at + ticket_count (ring_at slots at) = over_first-runs running (λ a. ticket_count (ring_at slots a)) at c.index.result.now (omega arith) c.index.ensures w.if-index.true in
           let count : w.count.result ≡ min (ticket_count (ring_at slots at)) (2 ^ 64 - 1) = w.count.ensures ∙ ap (λ s. min (ticket_count s) (2 ^ 64 - 1)) (slots-read c.args.rings.now.items at at w.index-then-index.result.now refl (omega arith) w.index-then-index.ensures) in
           omega (arith, w.lost-is, w.saturating_add-lost.ensures)

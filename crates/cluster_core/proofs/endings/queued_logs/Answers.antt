@@ -23,7 +23,7 @@ loop-at-preserved c =
     let before : c.loop-at.queued ≡ queued_of running pools at = c.loop-at.invariant.queued in
     let few : length (pools_at pools at).fast ≤ 1000 = c.requires.few at in
     elim c.if-index.branch [
-      then-index w ↦
+      | then-index w ↦
           let more : queued_of running pools (at + 1) ≡ queued_of running pools at + length (pools_at pools at).fast = over_first-runs running (λ a. length (pools_at pools a).fast) at c.index.result.now (omega arith) c.index.ensures w.if-index.true in
           let count : w.length.result ≡ length (pools_at pools at).fast = w.length.ensures ∙ ap (λ (q : Queues). length q.fast) (pools-read c.args.pools.now.items at at w.index-then-index.result.now refl (omega arith) w.index-then-index.ensures) in
           record { queued = omega (arith, w.queued-is); few = omega (arith, w.queued-is) }

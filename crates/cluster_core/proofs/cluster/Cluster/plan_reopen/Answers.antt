@@ -20,6 +20,6 @@ returns c =
     let logs = c.self.inside.records.kept.logs in
     let fast : map (λ (p : PoolState). p.kept.fast) pools ≡ map (λ (q : Queues). q.fast) kept.pools = sym (map-mapped (λ (q : Queues). q.fast) (λ (p : PoolState). p.kept) pools) in
     let changes : c.of.result ≡ endings logs (concat (map (λ (q : Queues). q.fast) kept.pools)) =
-        c.of.ensures ∙ c.in_ok-end_all.ensures ∙ ap (λ (cs : List Change). cs ++ endings logs (concat (map (λ (p : PoolState). p.kept.fast) pools))) c.new-changes.ensures.items ∙ ap (λ ids. endings logs (concat ids)) fast in
+    c.of.ensures ∙ c.in_ok-end_all.ensures ∙ ap (λ (cs : List Change). cs ++ endings logs (concat (map (λ (p : PoolState). p.kept.fast) pools))) c.new-changes.ensures.items ∙ ap (λ ids. endings logs (concat ids)) fast in
     let Q : ClusterState → Type 0 = λ s. IsPlanned (kept_of s) Reopen (record { reply = Reopened c.lost_tickets-lost.result c.queued_logs-ended.result; changes = c.of.result; node = node.StopsAll }) in
     subst Q c.self.view_is (rw changes (planned-reopen kept c.lost_tickets-lost.result c.queued_logs-ended.result c.self.invariant.rules c.lost_tickets-lost.ensures c.queued_logs-ended.ensures))

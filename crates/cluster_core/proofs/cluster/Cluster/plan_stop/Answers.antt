@@ -31,10 +31,10 @@ returns c =
     let queue : c.waiting-queue.result.now.items ≡ (pools_at kept.pools admin).fast = c.waiting-queue.ensures ∙ ap (λ (q : Queues). q.fast) here in
     let ended : c.length-ended.result ≡ length (pools_at kept.pools admin).fast = c.length-ended.ensures ∙ ap (λ (q : Queues). length q.fast) here in
     let lost : c.count-lost.result ≡ min (ticket_count (ring_at kept.rings admin)) (2 ^ 64 - 1) =
-        c.count-lost.ensures ∙ ap (λ slots. min (ticket_count slots) (2 ^ 64 - 1)) (slots-read c.self.inside.rings.items admin c.get-place.result c.index.result.now c.get-place.ensures.value (omega arith) c.index.ensures) in
+    c.count-lost.ensures ∙ ap (λ slots. min (ticket_count slots) (2 ^ 64 - 1)) (slots-read c.self.inside.rings.items admin c.get-place.result c.index.result.now c.get-place.ensures.value (omega arith) c.index.ensures) in
     let logs = c.self.inside.records.kept.logs in
     let changes : c.of.result ≡ endings logs (pools_at kept.pools admin).fast =
-        c.of.ensures ∙ c.in_ok-end_logs.ensures ∙ ap (λ (cs : List Change). cs ++ endings logs c.waiting-queue.result.now.items) c.new-changes.ensures.items ∙ ap (endings logs) queue in
+    c.of.ensures ∙ c.in_ok-end_logs.ensures ∙ ap (λ (cs : List Change). cs ++ endings logs c.waiting-queue.result.now.items) c.new-changes.ensures.items ∙ ap (endings logs) queue in
     let Q : ClusterState → Type 0 = λ s. IsPlanned (kept_of s) (NodeStop admin) (record { reply = Stopped c.count-lost.result c.length-ended.result; changes = c.of.result; node = node.Stops admin }) in
     subst Q c.self.view_is
     (rw changes

@@ -38,11 +38,6 @@ with_last_group id last = record last { group = id }
 add-reply : (kept : Kept) (h : History) (app : List ℕ) (kind : GroupKind) (addresses : List (List ℕ)) → Stands kept (accepted h) → reply_of h (AddGroup app kind addresses) ≡ group_reply (length kept.tables.groups) kept.tables.last.group
 add-reply kept h app kind addresses s = sym (ap (λ (t : Tables). group_reply (length t.groups) t.last.group) s.tables)
 
--- a group is refused
-pub add_group-refused : (kept : Kept) (app : List ℕ) (kind : GroupKind) (addresses : List (List ℕ)) (why : ClusterRefusal) → group_reply (length kept.tables.groups) kept.tables.last.group ≡ refused why
-    → IsPlanned kept (AddGroup app kind addresses) (record { reply = Refused why; changes = []; node = node.Nothing })
-add_group-refused kept app kind addresses why says = planned-refused kept (AddGroup app kind addresses) why (λ h s. add-reply kept h app kind addresses s ∙ says)
-
 group-room : (count last : ℕ) → count < MOST_GROUPS → last < LAST_JOB_ID → group_reply count last ≡ GroupReply (last + 1)
 group-room count last room ids =
     let test : nat_lt count 10000 ≡ true = let lt : count < 10000 = room in grind (arith, nat_tests) in
@@ -87,11 +82,6 @@ add_group-planned kept app copied kind addresses list id last rules room ids her
 
 set-reply : (kept : Kept) (h : History) (group : ℕ) (kind : GroupKind) (addresses : List (List ℕ)) → Stands kept (accepted h) → reply_of h (SetGroup group kind addresses) ≡ done_if (is_some (group_with group kept.tables.groups)) NoGroup
 set-reply kept h group kind addresses s = sym (ap (λ (t : Tables). done_if (is_some (group_with group t.groups)) NoGroup) s.tables)
-
--- a change of a group that is not there is refused
-pub set_group-refused : (kept : Kept) (group : ℕ) (kind : GroupKind) (addresses : List (List ℕ)) → is_some (group_with group kept.tables.groups) ≡ false
-    → IsPlanned kept (SetGroup group kind addresses) (record { reply = Refused NoGroup; changes = []; node = node.Nothing })
-set_group-refused kept group kind addresses absent = planned-refused kept (SetGroup group kind addresses) NoGroup (λ h s. set-reply kept h group kind addresses s ∙ ap (λ b. done_if b NoGroup) absent)
 
 -- a group gets another kind and other addresses
 pub set_group-planned : (kept : Kept) (group : ℕ) (kind : GroupKind) (addresses : List (List ℕ)) (row new : Group) → KeepsRules kept.tables → group_with group kept.tables.groups ≡ Some row → new ≡ group_set kind addresses row

@@ -57,20 +57,11 @@ add-reply : (kept : Kept) (h : History) (spec : JobSpec) → Stands kept (accept
 add-reply kept h spec s =
     sym (ap (λ (t : Tables). job_reply (is_some (group_with spec.group t.groups)) (parsed spec.kind spec.schedule) (length t.jobs) t.last.job) s.tables)
 
--- a job is refused
-pub add_job-refused : (kept : Kept) (spec : JobSpec) (why : ClusterRefusal) → job_kept kept spec ≡ refused why → IsPlanned kept (AddJob spec) (record { reply = Refused why; changes = []; node = node.Nothing })
-add_job-refused kept spec why says = planned-refused kept (AddJob spec) why (λ h s. add-reply kept h spec s ∙ says)
-
 -- the reply where the group is there and the text is a schedule
 job-reply_found : (kept : Kept) (spec : JobSpec) (plan : Plan) → is_some (group_with spec.group kept.tables.groups) ≡ true → parsed spec.kind spec.schedule ≡ Ok plan → job_kept kept spec ≡ room_reply (length kept.tables.jobs) kept.tables.last.job
 job-reply_found kept spec plan group said =
     ap (λ b. job_reply b (parsed spec.kind spec.schedule) (length kept.tables.jobs) kept.tables.last.job) group
     ∙ ap (λ x. schedule_reply x (length kept.tables.jobs) kept.tables.last.job) said
-
--- a job for which there is no room or no id is refused
-pub add_job-full : (kept : Kept) (spec : JobSpec) (plan : Plan) (why : ClusterRefusal) → is_some (group_with spec.group kept.tables.groups) ≡ true → parsed spec.kind spec.schedule ≡ Ok plan → room_reply (length kept.tables.jobs) kept.tables.last.job ≡ refused why
-    → IsPlanned kept (AddJob spec) (record { reply = Refused why; changes = []; node = node.Nothing })
-add_job-full kept spec plan why group said says = add_job-refused kept spec why (job-reply_found kept spec plan group said ∙ says)
 
 job-room : (count last : ℕ) → count < MOST_JOBS → last < LAST_JOB_ID → room_reply count last ≡ JobReply (last + 1)
 job-room count last room ids =
@@ -127,7 +118,7 @@ add_job-planned kept spec copied plan id last rules group said room ids here sam
     let lasts : last ≡ with_last_job (last_job h + 1) (records_of h).last = is ∙ ap (λ n. with_last_job n kept.tables.last) number ∙ ap (λ (t : Tables). with_last_job (last_job h + 1) t.last) s.tables in
     let rising = jobs_rise h s.opens in
     let row : new_row id copied plan ≡ new_row (last_job h + 1) spec (plan_of spec) =
-      ap (λ n. new_row n copied plan) number ∙ ap (λ x. new_row (last_job h + 1) x plan) same ∙ ap (λ p. new_row (last_job h + 1) spec p) (sym (plan-parsed spec plan said)) in
+    ap (λ n. new_row n copied plan) number ∙ ap (λ x. new_row (last_job h + 1) x plan) same ∙ ap (λ p. new_row (last_job h + 1) spec p) (sym (plan-parsed spec plan said)) in
     let behind = put-behind (λ (j : Job). j.id) 0 (last_job h) (new_row id copied plan) (jobs_of h) rising (omega arith) in
     ap (λ js. with_jobs h js last) (behind ∙ ap (λ x. jobs_of h ++ x ∷ []) row ∙ sym (jobs-added h spec (JobReply id) rising))
     ∙ ap (λ l. with_jobs h (jobs_of (After h (AddJob spec) (JobReply id))) l) lasts)
@@ -145,10 +136,6 @@ rows-without h job (j ∷ ids) =
 
 remove-reply : (kept : Kept) (h : History) (job : ℕ) → Stands kept (accepted h) → reply_of h (RemoveJob job) ≡ done_if (is_some (job_with job kept.tables.jobs)) NoJob
 remove-reply kept h job s = sym (ap (λ (t : Tables). done_if (is_some (job_with job t.jobs)) NoJob) s.tables)
-
--- a removal of a job that is not there is refused
-pub remove-refused : (kept : Kept) (job : ℕ) → is_some (job_with job kept.tables.jobs) ≡ false → IsPlanned kept (RemoveJob job) (record { reply = Refused NoJob; changes = []; node = node.Nothing })
-remove-refused kept job absent = planned-refused kept (RemoveJob job) NoJob (λ h s. remove-reply kept h job s ∙ ap (λ b. done_if b NoJob) absent)
 
 -- a job is removed
 pub remove-planned : (kept : Kept) (job : ℕ) → KeepsRules kept.tables → is_some (job_with job kept.tables.jobs) ≡ true → IsPlanned kept (RemoveJob job) (record { reply = Done; changes = change.DropJob job ∷ []; node = node.Nothing })

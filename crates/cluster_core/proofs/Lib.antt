@@ -18,3 +18,7 @@ pub mod RowPlans
 pub mod EditLemmas
 pub mod GroupLemmas
 pub mod JobLemmas
+pub mod EndingLemmas
+pub mod StopLemmas
+pub mod ScanLemmas
+pub mod StepLemmas

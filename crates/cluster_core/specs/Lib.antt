@@ -7,3 +7,4 @@ pub mod Openings
 pub mod Firing
 pub mod Turning
 pub mod Edits
+pub mod Endings

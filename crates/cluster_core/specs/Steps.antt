@@ -1,13 +1,18 @@
 -- What a step of the scan finds.
-use Rattle.std.specs.Prelude.{◌≡◌, ℕ, ◌==◌, ℤ, List, true, slice_get, Option, Some}
+use Rattle.std.specs.Prelude.{[], None, if◌then◌else◌, ◌≡◌, ℕ, ◌==◌, ℤ, List, true, slice_get, Option, Some}
 use Rattle.job_records.specs.declared.job.Job.{Job}
 use Rattle.cluster_history.specs.declared.scan.Scan.{Scan}
 use Rattle.cluster_history.specs.declared.scan.Seat.{Seat}
 use Rattle.job_values.specs.declared.cluster.ClusterRefusal.TheVariants.{NotScanning}
-use Rattle.cluster_history.specs.Firings.{Shot}
+use Rattle.job_records.specs.declared.group.Group.{Group}
+use Rattle.misfire_rules.specs.declared.decision.Decision.{Decision}
+use Rattle.time_ring.specs.declared.ticket.Ticket.{Ticket as RingTicket}
+use Rattle.cluster_history.specs.Firings.{Shot, shots_of, kind_of}
 use Rattle.cluster_history.specs.Looks.{Looked}
 use Rattle.cluster_history.specs.Replies.{step_reply, refused}
 use Rattle.cluster_core.specs.declared.pages.Sitting.{Sitting}
+use Rattle.cluster_core.specs.declared.prepared.NodeChange.{NodeChange}
+use Rattle.cluster_core.specs.declared.prepared.NodeChange.TheVariants as node
 
 -- the admin owns the open scan, whose next seat and moment these are
 pub record SitsAt (current : Option Scan) (admin : ℕ) (sitting : Sitting) : Type 0 where
@@ -20,3 +25,17 @@ pub record SitsAt (current : Option Scan) (admin : ℕ) (sitting : Sitting) : Ty
 -- a step of the admin is refused
 abbrev pub IsNotScanning : Option Scan → ℕ → Type 0
 IsNotScanning current admin = (last queued : ℕ) (shots : List Shot) (look : Option Looked) → step_reply last queued shots look admin current ≡ refused NotScanning
+
+-- a scan that begins
+abbrev pub begins : Option Scan → NodeChange
+begins None = node.Nothing
+begins (Some scan) = node.Begins scan
+
+-- the ticket for a time that is put, if one is
+abbrev pub ticket_put : Job → Option ℕ → Option RingTicket
+ticket_put row None = None
+ticket_put row (Some due) = Some (record { job = row.id; edition = row.edition; due = due })
+
+-- what a look at a row is to open
+abbrev pub shots_decided : List Group → ℕ → Decision → Job → List Shot
+shots_decided groups at decision row = if decision.fire_now then shots_of groups (kind_of decision.case) at row else []

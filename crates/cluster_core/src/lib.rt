@@ -7,11 +7,13 @@ pub mod cluster;
 mod commit;
 mod counts;
 mod edits;
+mod endings;
 mod fires;
 mod firing;
 mod groups;
 mod ids;
 mod jobs;
+mod looks;
 mod nodes;
 mod opening;
 mod pages;
@@ -25,4 +27,3 @@ mod turns;
 
 pub use cluster::Cluster;
 pub use prepared::{Entering, NodeChange, Prepared};
-

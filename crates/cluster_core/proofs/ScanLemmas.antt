@@ -1,0 +1,57 @@
+-- Beginning a scan.
+use Rattle.std.proofs.Common.{◌≡◌, ℕ, ◌<◌, List, [], ◌∷◌, true, Option, Some, None, length, refl, sym, ap, ◌∙◌, subst}
+use Rattle.job_values.specs.declared.cluster.ClusterEvent.TheVariants.{ScanBegin}
+use Rattle.job_values.specs.declared.cluster.ClusterReply.TheVariants.{Begun}
+use Rattle.job_values.specs.declared.cluster.ClusterRefusal.TheVariants.{Busy}
+use Rattle.job_records.specs.Tables.{Tables}
+use Rattle.cluster_history.specs.declared.scan.Scan.{Scan}
+use Rattle.cluster_history.specs.declared.scan.Seat.{Seat}
+use Rattle.cluster_history.specs.declared.settings.Settings.{Settings}
+use Rattle.cluster_history.specs.History.{History, After, accepted, settings_of}
+use Rattle.cluster_history.specs.Nodes.{runs}
+use Rattle.cluster_history.specs.Pages.{page_in, page_limit, begun}
+use Rattle.cluster_history.specs.Jobs.{scan_of, page_of, jobs_of}
+use Rattle.cluster_history.specs.Replies.{reply_after, begin_reply, refused}
+use Rattle.cluster_core.specs.Commits.{node_changed}
+use Rattle.cluster_core.specs.Kept.{Kept}
+use Rattle.cluster_core.specs.Plans.{IsPlanned}
+use Rattle.cluster_core.specs.Stands.{Stands}
+use Rattle.cluster_core.specs.Steps.{begins}
+use Rattle.cluster_core.proofs.PlanLemmas.{planned, answered-running}
+
+-- the page of a scan, by what is kept
+page-kept : (kept : Kept) (h : History) (at : ℕ) → Stands kept h → page_in (page_limit kept.settings) at kept.tables.jobs ≡ page_of h at
+page-kept kept h at s =
+    ap (λ (x : Settings). page_in (page_limit x) at kept.tables.jobs) s.settings ∙ ap (λ (t : Tables). page_in (page_limit (settings_of h)) at t.jobs) s.tables
+
+-- a scan has an owner
+pub busy-scan : (kept : Kept) (h : History) (admin at : ℕ) (scan : Scan) → runs h admin ≡ true → kept.scan ≡ Some scan → Stands kept h → reply_after h (ScanBegin admin at) ≡ refused (Busy scan.owner)
+busy-scan kept h admin at scan running is s =
+    answered-running (runs h admin) admin _ running ∙ ap (λ o. begin_reply o (page_of h at)) (sym s.scan ∙ is)
+
+-- a scan begins, by its page
+kept-begun : (kept : Kept) (admin at : ℕ) (page : List Seat) → kept.scan ≡ None → node_changed (begins (begun admin at page)) kept ≡ record kept { scan = begun admin at page }
+kept-begun kept admin at [] free = ap (λ scan. record kept { scan = scan }) free
+kept-begun kept admin at (seat ∷ page) free = refl
+
+pub planned-scan : (kept : Kept) (admin at limit count : ℕ) (page : List Seat) → limit ≡ page_limit kept.settings → page ≡ page_in limit at kept.tables.jobs → count ≡ length page → kept.scan ≡ None
+    → ((h : History) → Stands kept (accepted h) → runs (accepted h) admin ≡ true)
+    → IsPlanned kept (ScanBegin admin at) (record { reply = Begun count; changes = []; node = begins (begun admin at page) })
+planned-scan kept admin at limit count page many pages counted free running =
+    let is : page ≡ page_in (page_limit kept.settings) at kept.tables.jobs = pages ∙ ap (λ n. page_in n at kept.tables.jobs) many in
+    planned kept (ScanBegin admin at) (record { reply = Begun count; changes = []; node = begins (begun admin at page) }) tt refl
+    (λ h s. answered-running (runs (accepted h) admin) admin _ (running h s)
+    ∙ ap (λ o. begin_reply o (page_of (accepted h) at)) (sym s.scan ∙ free)
+    ∙ ap (λ p. Begun (length p)) (sym (page-kept kept (accepted h) at s) ∙ sym is) ∙ ap Begun (sym counted))
+    (λ h s.
+    let begun_is : node_changed (begins (begun admin at page)) kept ≡ record kept { scan = begun admin at page } = kept-begun kept admin at page free in
+    let P : Kept → Type 0 = λ k. Stands (record k { tables = kept.tables }) (After h (ScanBegin admin at) (Begun count)) in
+    subst P (sym begun_is) (record {
+      opens = s.opens;
+      settings = s.settings;
+      running = s.running;
+      tables = s.tables;
+      scan = ap (λ p. begun admin at p) (is ∙ page-kept kept h at s);
+      rings = s.rings;
+      pools = s.pools;
+    }))

@@ -22,12 +22,11 @@ use Rattle.cluster_history.specs.Groups.{group_with, addresses_in, groups_of}
 use Rattle.cluster_history.specs.Looks.{job_with}
 use Rattle.cluster_history.specs.Jobs.{jobs_of}
 use Rattle.cluster_history.specs.Tickets.{waiting, taken, second_of}
-use Rattle.cluster_history.specs.Firings.{Shot, shot_for, shots_if, shots_by, shots_taken, shots_for, shots_turned, shards}
+use Rattle.cluster_history.specs.Firings.{shot_for, shots_if, shots_by, shots_taken, shots_for, shots_turned, shards}
 use Rattle.cluster_history.specs.Logs.{placed_from, last_log, queue_of, opened_logs, behind}
 use Rattle.cluster_history.specs.Replies.{reply_after, if_ids, queued_after, fired_by, fired_from, refused}
 use Rattle.cluster_core.specs.declared.prepared.Entering.{Entering}
 use Rattle.cluster_core.specs.declared.prepared.NodeChange.TheVariants as node
-use Rattle.cluster_core.specs.declared.opening.Openings.{Openings}
 use Rattle.cluster_core.specs.declared.turns.Turned.{Turned}
 use Rattle.cluster_core.specs.Kept.{Kept, ring_at, pools_at}
 use Rattle.cluster_core.specs.Commits.{pools_after, rings_turned}
@@ -37,7 +36,7 @@ use Rattle.cluster_core.specs.Openings.{OpensBehind, told_of, put_of, entering_o
 use Rattle.cluster_core.specs.Turning.{shots_at, shots_all, told_at, told_all, FiresBehind, FiresAll}
 use Rattle.cluster_core.proofs.FireLemmas.{ids-spent, ids-left}
 use Rattle.cluster_core.proofs.FiringLemmas.{fired-allowed, fired-tables, fired-pools_by, fired_changes, queue-length, with_logs, only_fast}
-use Rattle.cluster_core.proofs.OpeningLemmas.{opens-none, opens-both, queued-append}
+use Rattle.cluster_core.proofs.OpeningLemmas.{opens-both, queued-append}
 use Rattle.cluster_core.proofs.PlanLemmas.{planned, answered-running}
 use Rattle.cluster_core.proofs.RingLemmas.{ring-taken, rings-turn}
 use Rattle.cluster_core.proofs.StandsLemmas.{ring-stands}
@@ -46,19 +45,22 @@ use Rattle.cluster_core.proofs.StandsLemmas.{ring-stands}
 pub shots-found : (t : Tables) (at total : ℕ) (ticket : RingTicket) (row : Job) → job_with ticket.job t.jobs ≡ Some row → total ≡ shards row.spec.route (addresses_in (group_with row.spec.group t.groups)) → shots_at t at ticket ≡ shots_by row row.spec.param Cron at total
 shots-found t at total ticket row found count = ap (λ r. shots_if t.groups Cron at r) found ∙ ap (λ n. shots_by row row.spec.param Cron at n) (sym count)
 
+-- and how many that are
 pub shots-many : (t : Tables) (at total : ℕ) (ticket : RingTicket) (row : Job) → job_with ticket.job t.jobs ≡ Some row → total ≡ shards row.spec.route (addresses_in (group_with row.spec.group t.groups)) → length (shots_at t at ticket) ≡ total
 shots-many t at total ticket row found count =
     ap length (shots-found t at total ticket row found count) ∙ length-map-range_with_len (λ index. shot_for row row.spec.param Cron at total index) 0 total
 
 -- of one ticket
-pub shots-one : (t : Tables) (at : ℕ) (ticket : RingTicket) → shots_all t at (ticket ∷ []) ≡ shots_at t at ticket
+shots-one : (t : Tables) (at : ℕ) (ticket : RingTicket) → shots_all t at (ticket ∷ []) ≡ shots_at t at ticket
 shots-one t at ticket = append-nil (shots_at t at ticket)
 
+-- of tickets behind others
 shots-append : (t : Tables) (at : ℕ) (xs ys : List RingTicket) → shots_all t at (xs ++ ys) ≡ shots_all t at xs ++ shots_all t at ys
 shots-append t at [] ys = refl
 shots-append t at (x ∷ xs) ys =
     ap (λ ss. shots_at t at x ++ ss) (shots-append t at xs ys) ∙ sym (append_assoc (shots_at t at x) (shots_all t at xs) (shots_all t at ys))
 
+-- what is told of them
 told-append : (t : Tables) (at last queued : ℕ) (xs ys : List RingTicket)
     → told_all t at last queued (xs ++ ys) ≡ told_all t at last queued xs ++ told_all t at (last + length (shots_all t at xs)) (queued_after queued (shots_all t at xs)) ys
 told-append t at last queued [] ys = let e : last ≡ last + 0 = omega arith in ap (λ n. told_all t at n queued ys) e
@@ -69,10 +71,6 @@ told-append t at last queued (x ∷ xs) ys =
     ∙ ap (λ n. told_all t at (last + length (shots_at t at x)) (queued_after queued (shots_at t at x)) xs ++ told_all t at n (queued_after (queued_after queued (shots_at t at x)) (shots_all t at xs)) ys) e
     ∙ ap (λ n. told_all t at (last + length (shots_at t at x)) (queued_after queued (shots_at t at x)) xs ++ told_all t at (last + length (shots_at t at x ++ shots_all t at xs)) n ys) (sym (queued-append queued (shots_at t at x) (shots_all t at xs))))
 
--- nothing is fired yet
-pub fires-none : (t : Tables) (at : ℕ) (x : Turned) → x.openings.last ≤ 9223372036854775807 → FiresBehind t at [] x x
-fires-none t at x room = record { opens = opens-none x.openings room; fired = sym (append-nil x.fired.items) }
-
 -- a ticket is fired: its logs are opened, and it is told
 pub fires-one : (t : Tables) (at : ℕ) (ticket : RingTicket) (opened : List Opened) (x y : Turned) → OpensBehind (shots_at t at ticket) x.openings y.openings → opened ≡ told_of (shots_at t at ticket) x.openings
     → y.fired.items ≡ x.fired.items ++ record { job = ticket.job; edition = ticket.edition; due = ticket.due; opened = opened } ∷ [] → FiresBehind t at (ticket ∷ []) x y
@@ -82,7 +80,7 @@ fires-one t at ticket opened x y opens told more = record {
 }
 
 -- tickets are fired, and others behind them
-pub fires-both : (t : Tables) (at : ℕ) (xs ys : List RingTicket) (x y z : Turned) → FiresBehind t at xs x y → FiresBehind t at ys y z → FiresBehind t at (xs ++ ys) x z
+fires-both : (t : Tables) (at : ℕ) (xs ys : List RingTicket) (x y z : Turned) → FiresBehind t at xs x y → FiresBehind t at ys y z → FiresBehind t at (xs ++ ys) x z
 fires-both t at xs ys x y z first then_ = record {
   opens = subst (λ ss. OpensBehind ss x.openings z.openings) (sym (shots-append t at xs ys)) (opens-both (shots_all t at xs) (shots_all t at ys) x.openings y.openings z.openings first.opens then_.opens);
   fired = then_.fired ∙ ap (λ fs. fs ++ told_all t at y.openings.last y.openings.queued ys) first.fired
@@ -139,14 +137,14 @@ tickets-kept : (kept : Kept) (h : History) (admin at : ℕ) → admin < 16 → S
 tickets-kept kept h admin at below s =
     ap (λ ring. tickets_in ring (slot_of_second (second_of at)) ++ tickets_in ring (slot_before (second_of at))) (ring-stands kept h admin below s) ∙ sym (ring-taken (waiting h) admin (second_of at))
 
--- what they open
+-- what the tickets of a turn open
 shots-kept : (kept : Kept) (h : History) (admin at : ℕ) → admin < 16 → Stands kept h → shots_all kept.tables at (turn_tickets kept admin at) ≡ shots_turned h admin at
 shots-kept kept h admin at below s =
     ap (λ (t : Tables). shots_all t at (turn_tickets kept admin at)) s.tables
     ∙ ap (λ ts. shots_all (records_of h) at ts) (tickets-kept kept h admin at below s)
     ∙ shots-in_ring (records_of h) at (taken admin (second_of at) (waiting h))
 
--- what is told of them
+-- what is told of the tickets of a turn
 told-kept : (kept : Kept) (h : History) (admin at queued : ℕ) → admin < 16 → queued ≡ length (pools_at kept.pools admin).fast → Stands kept h
     → told_all kept.tables at kept.tables.last.log queued (turn_tickets kept admin at) ≡ fired_from (groups_of h) (jobs_of h) at (last_log h) (length (queue_of h admin)) (taken admin (second_of at) (waiting h))
 told-kept kept h admin at queued below here s =
@@ -190,7 +188,6 @@ pub record Turns (kept : Kept) (at queued : ℕ) (tickets : List RingTicket) (ch
 pub turns-all : (kept : Kept) (at queued : ℕ) (tickets : List RingTicket) (x y : Turned) (changes : List Change) → StartsAt kept.tables.last.log queued x → FiresBehind kept.tables at tickets x y
     → changes ≡ opening_changes kept.tables.last y.openings.last y.openings.puts.items → Turns kept at queued tickets changes y.openings.entering.items y.fired.items
 turns-all kept at queued tickets x y changes none fires made =
-    let shots = shots_all kept.tables at tickets in
     let placed : placed_from x.openings.last x.openings.queued (shots_all kept.tables at tickets) ≡ placed_from kept.tables.last.log queued (shots_all kept.tables at tickets) =
     ap (λ n. placed_from n x.openings.queued (shots_all kept.tables at tickets)) none.ids ∙ ap (λ n. placed_from kept.tables.last.log n (shots_all kept.tables at tickets)) none.pool in
     record {

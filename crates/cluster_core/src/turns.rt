@@ -113,8 +113,7 @@ fn fire_slots(
     if !fits {
         return Ok(false);
     }
-    let fits = fire_tickets(alloc, records, at, past, turned)?;
-    Ok(fits)
+    fire_tickets(alloc, records, at, past, turned)
 }
 
 impl Cluster {

@@ -1,6 +1,6 @@
-use Rattle.std.proofs.Common.{◌≡◌, ◌+◌, ◌<◌, length, arith, [], ◌∷◌}
+use Rattle.std.proofs.Common.{◌+◌, ◌<◌, length, arith, [], ◌∷◌}
 use Rattle.cluster_core.specs.Turning.{shots_all}
-use Rattle.cluster_core.proofs.TurnLemmas.{fires-none, fires-more, shots-front}
+use Rattle.cluster_core.proofs.TurnLemmas.{fires-more, shots-front}
 use Rattle.cluster_core.proofs.turns.fire_tickets.Goals as goal
 
 pub returns-then-not-fits : goal.returns-then-not-fits

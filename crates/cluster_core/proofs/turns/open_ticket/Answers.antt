@@ -1,4 +1,4 @@
-use Rattle.std.proofs.Common.{◌≡◌, ◌∙◌, sym, ap, subst, length, arith}
+use Rattle.std.proofs.Common.{◌≡◌, ◌∙◌, sym, ap, subst, arith}
 use Rattle.job_values.specs.declared.words.TriggerKind.TheVariants.{Cron}
 use Rattle.cluster_history.specs.Firings.{shots_by}
 use Rattle.cluster_core.specs.Openings.{OpensBehind, told_of}

@@ -32,6 +32,7 @@ use Rattle.cluster_history.specs.Replies.{if_running, step_reply, seat_reply, lo
 use Rattle.cluster_core.specs.declared.pages.Sitting.{Sitting}
 use Rattle.cluster_core.specs.declared.looks.Look.{Look}
 use Rattle.cluster_core.specs.declared.firing.Fired.{Fired}
+use Rattle.cluster_core.specs.declared.prepared.Entering.{Entering}
 use Rattle.cluster_core.specs.declared.prepared.NodeChange.TheVariants as node
 use Rattle.cluster_core.specs.Commits.{rings_with, pools_after}
 use Rattle.cluster_core.specs.Edits.{turned_row}
@@ -125,3 +126,89 @@ rows-set h job row new looked rules found seen made =
     jobs-put h (row_by (spec_of h) (edition_of h) (λ x. next_looked (Some looked) x (next_of h x))) job row new (rises-from_rising (λ (x : Job). x.id) 0 _ (jobs_of h) rules.jobs.rising) found (ap (λ (x : Job). x.id) made ∙ id)
     (made ∙ ap (λ (x : Job). turned_row x.edition looked.decision.next x) is ∙ sym (ap (λ b. row_looked h looked.decision.next b job) test))
     (λ j other. ap (λ b. row_looked h looked.decision.next b j) (ap (eqb j) here ∙ other))
+
+no-shots : (kept : Kept) (h : History) (admin : ℕ) (sitting : Sitting) → SitsAt kept.scan admin sitting → look_of h ≡ None → Stands kept h → shots_stepped h ≡ []
+no-shots kept h admin sitting sits looks s = shots-kept kept h admin sitting sits None looks s
+
+-- a step that skips its seat
+pub planned-skip : (kept : Kept) (admin : ℕ) (sitting : Sitting) → admin < 16 → SitsAt kept.scan admin sitting → KeepsRules kept.tables → look_seat kept.settings.offset sitting.at kept.tables.jobs (Some sitting.seat) ≡ None
+    → ((h : History) → Stands kept (accepted h) → runs (accepted h) admin ≡ true)
+    → IsPlanned kept (ScanStep admin) (record { reply = Skip sitting.seat.job; changes = []; node = node.Steps admin None [] })
+planned-skip kept admin sitting below sits rules none running =
+    planned kept (ScanStep admin) (record { reply = Skip sitting.seat.job; changes = []; node = node.Steps admin None [] }) tt refl
+    (λ h s. reply-seat (accepted h) kept admin sitting None (running h s) sits (look-kept kept (accepted h) admin sitting sits s ∙ none) s)
+    (λ h s.
+    let looks : look_of h ≡ None = look-kept kept h admin sitting sits s ∙ none in
+    let rows : kept.tables ≡ records_of (After h (ScanStep admin) (Skip sitting.seat.job)) =
+    fired-tables kept h admin (length (pools_at kept.pools admin).fast) [] below refl rules (omega (arith, rules.logs.last_id)) s
+    ∙ ap (λ ss. with_logs (records_of h) (last_log h + length ss) (opened_logs h admin ss)) (sym (no-shots kept h admin sitting sits looks s))
+    ∙ ap (λ x. record (with_logs (records_of h) (last_log h + length (shots_stepped h)) (opened_logs h admin (shots_stepped h))) { jobs = rows_looked h x }) (sym looks) in
+    stands-stepped kept h admin (length (pools_at kept.pools admin).fast) (Skip sitting.seat.job) None [] kept.tables below refl looks (no-shots kept h admin sitting sits looks s) s rows)
+
+-- the look at the row of the next seat's job
+abbrev look_for : Job → Look → Looked
+look_for row look = record { row = row; due = look.due; decision = look.decision }
+
+-- it is what the step looks at
+looked-kept : (kept : Kept) (h : History) (admin : ℕ) (sitting : Sitting) (row : Job) (look : Look) → SitsAt kept.scan admin sitting → job_with sitting.seat.job kept.tables.jobs ≡ Some row
+    → look_row kept.settings.offset sitting.at sitting.seat.edition (Some row) ≡ Some (look_for row look) → Stands kept h → look_of h ≡ Some (look_for row look)
+looked-kept kept h admin sitting row look sits found seen s =
+    look-kept kept h admin sitting sits s ∙ ap (λ x. look_row kept.settings.offset sitting.at sitting.seat.edition x) found ∙ seen
+
+looked-shots : (kept : Kept) (h : History) (admin : ℕ) (sitting : Sitting) (row : Job) (look : Look) → SitsAt kept.scan admin sitting → look_of h ≡ Some (look_for row look) → Stands kept h
+    → shots_stepped h ≡ shots_decided kept.tables.groups sitting.at look.decision row
+looked-shots kept h admin sitting row look sits looks s =
+    shots-kept kept h admin sitting sits (Some (look_for row look)) looks s ∙ ap (λ n. shots_decided kept.tables.groups n look.decision row) (sym sits.at)
+
+-- the reply to a look, by what is kept
+look-reply : (kept : Kept) (h : History) (admin : ℕ) (sitting : Sitting) (row : Job) (look : Look) → admin < 16 → runs h admin ≡ true → SitsAt kept.scan admin sitting → look_of h ≡ Some (look_for row look) → Stands kept h
+    → reply_after h (ScanStep admin) ≡ look_reply kept.tables.last.log (length (pools_at kept.pools admin).fast) (shots_decided kept.tables.groups sitting.at look.decision row) sitting.seat.job (Some (look_for row look))
+look-reply kept h admin sitting row look below running sits looks s =
+    reply-seat h kept admin sitting (Some (look_for row look)) running sits looks s
+    ∙ ap (λ ss. look_reply (last_log h) (length (queue_of h admin)) ss sitting.seat.job (Some (look_for row look))) (looked-shots kept h admin sitting row look sits looks s)
+    ∙ ap (λ n. look_reply (last_log h) n (shots_decided kept.tables.groups sitting.at look.decision row) sitting.seat.job (Some (look_for row look))) (sym (queue-length kept h admin below s))
+    ∙ ap (λ (t : Tables). look_reply t.last.log (length (pools_at kept.pools admin).fast) (shots_decided kept.tables.groups sitting.at look.decision row) sitting.seat.job (Some (look_for row look))) (sym s.tables)
+
+-- a step whose logs would need an id above the greatest
+pub spent-look : (kept : Kept) (h : History) (admin : ℕ) (sitting : Sitting) (row : Job) (look : Look) → admin < 16 → runs h admin ≡ true → SitsAt kept.scan admin sitting → job_with sitting.seat.job kept.tables.jobs ≡ Some row
+    → look_row kept.settings.offset sitting.at sitting.seat.edition (Some row) ≡ Some (look_for row look) → 9223372036854775807 < kept.tables.last.log + length (shots_decided kept.tables.groups sitting.at look.decision row) → Stands kept h
+    → reply_after h (ScanStep admin) ≡ refused IdsSpent
+spent-look kept h admin sitting row look below running sits found seen over s =
+    look-reply kept h admin sitting row look below running sits (looked-kept kept h admin sitting row look sits found seen s) s
+    ∙ ids-spent kept.tables.last.log (length (shots_decided kept.tables.groups sitting.at look.decision row)) _ over
+
+-- a step that looks at a job
+pub planned-look : (kept : Kept) (admin queued : ℕ) (sitting : Sitting) (row new : Job) (look : Look) (fired : Fired) (changes : List Change) → admin < 16 → queued ≡ length (pools_at kept.pools admin).fast → SitsAt kept.scan admin sitting → KeepsRules kept.tables
+    → job_with sitting.seat.job kept.tables.jobs ≡ Some row → look_row kept.settings.offset sitting.at sitting.seat.edition (Some row) ≡ Some (look_for row look)
+    → Fires kept.tables.last queued (shots_decided kept.tables.groups sitting.at look.decision row) fired → new ≡ turned_row row.edition look.decision.next row → changes ≡ fired.changes.items ++ PutJob new ∷ []
+    → ((h : History) → Stands kept (accepted h) → runs (accepted h) admin ≡ true)
+    → IsPlanned kept (ScanStep admin) (record { reply = LookReply sitting.seat.job look.decision.case look.due look.decision.next look.decision.put fired.opened; changes = changes; node = node.Steps admin (ticket_put row look.decision.put) fired.entering.items })
+planned-look kept admin queued sitting row new look fired changes below here sits rules found seen fires made all running =
+    let job = sitting.seat.job in
+    let reply = LookReply sitting.seat.job look.decision.case look.due look.decision.next look.decision.put fired.opened in
+    let shots = shots_decided kept.tables.groups sitting.at look.decision row in
+    let opened : AreAllowed kept.tables (fired_changes kept queued (shots_decided kept.tables.groups sitting.at look.decision row)) = fired-allowed kept.tables queued (shots_decided kept.tables.groups sitting.at look.decision row) rules fires.ids in
+    let middle : applied_all kept.tables (fired_changes kept queued (shots_decided kept.tables.groups sitting.at look.decision row)) ≡ with_logs kept.tables (kept.tables.last.log + length (shots_decided kept.tables.groups sitting.at look.decision row)) _ = fired-rows kept.tables queued (shots_decided kept.tables.groups sitting.at look.decision row) rules fires.ids in
+    let kept_rules : KeepsRules (applied_all kept.tables (fired_changes kept queued (shots_decided kept.tables.groups sitting.at look.decision row))) = all_keep kept.tables (fired_changes kept queued (shots_decided kept.tables.groups sitting.at look.decision row)) rules opened in
+    let there : job_with sitting.seat.job (applied_all kept.tables (fired_changes kept queued (shots_decided kept.tables.groups sitting.at look.decision row))).jobs ≡ Some row = ap (λ (t : Tables). job_with sitting.seat.job t.jobs) middle ∙ found in
+    let sum : changes ≡ fired_changes kept queued (shots_decided kept.tables.groups sitting.at look.decision row) ++ PutJob new ∷ [] = all ∙ ap (λ cs. cs ++ PutJob new ∷ []) fires.changes in
+    planned kept (ScanStep admin) (record { reply = LookReply sitting.seat.job look.decision.case look.due look.decision.next look.decision.put fired.opened; changes = changes; node = node.Steps admin (ticket_put row look.decision.put) fired.entering.items })
+    (subst (λ cs. AreAllowed kept.tables cs) (sym sum) (allowed_append kept.tables (fired_changes kept queued (shots_decided kept.tables.groups sitting.at look.decision row)) (PutJob new ∷ []) opened (turn-allowed _ sitting.seat.job row new row.edition look.decision.next kept_rules there made)))
+    refl
+    (λ h s. look-reply kept (accepted h) admin sitting row look below (running h s) sits (looked-kept kept (accepted h) admin sitting row look sits found seen s) s
+    ∙ ids-left kept.tables.last.log (length (shots_decided kept.tables.groups sitting.at look.decision row)) _ fires.ids
+    ∙ ap (λ n. LookReply sitting.seat.job look.decision.case look.due look.decision.next look.decision.put (map opened_of (placed_from kept.tables.last.log n (shots_decided kept.tables.groups sitting.at look.decision row)))) (sym here)
+    ∙ ap (λ x. LookReply sitting.seat.job look.decision.case look.due look.decision.next look.decision.put x) (sym fires.opened))
+    (λ h s.
+    let looks : look_of h ≡ Some (look_for row look) = looked-kept kept h admin sitting row look sits found seen s in
+    let opens : shots_stepped h ≡ shots_decided kept.tables.groups sitting.at look.decision row = looked-shots kept h admin sitting row look sits looks s in
+    let rules_h : KeepsRules (records_of h) = subst KeepsRules s.tables rules in
+    let found_h : job_with sitting.seat.job (jobs_of h) ≡ Some row = row-stands kept h sitting.seat.job row found s in
+    let rows : applied_all kept.tables changes ≡ records_of (After h (ScanStep admin) (LookReply sitting.seat.job look.decision.case look.due look.decision.next look.decision.put fired.opened)) =
+    ap (applied_all kept.tables) sum
+    ∙ applied_append kept.tables (fired_changes kept queued (shots_decided kept.tables.groups sitting.at look.decision row)) (PutJob new ∷ [])
+    ∙ ap (λ (t : Tables). applied_all t (PutJob new ∷ [])) (fired-tables kept h admin queued (shots_decided kept.tables.groups sitting.at look.decision row) below here rules fires.ids s)
+    ∙ ap (λ ss. applied_all (with_logs (records_of h) (last_log h + length ss) (opened_logs h admin ss)) (PutJob new ∷ [])) (sym opens)
+    ∙ ap (λ js. record (with_logs (records_of h) (last_log h + length (shots_stepped h)) (opened_logs h admin (shots_stepped h))) { jobs = js }) (rows-set h sitting.seat.job row new (look_for row look) rules_h found_h refl made ∙ ap (rows_looked h) (sym looks)) in
+    let P : List Entering → Type 0 = λ es. Stands (record kept { tables = applied_all kept.tables changes; scan = stepped kept.scan; rings = rings_with admin (ticket_put row look.decision.put) kept.rings; pools = pools_after admin es kept.pools }) (After h (ScanStep admin) (LookReply sitting.seat.job look.decision.case look.due look.decision.next look.decision.put fired.opened)) in
+    subst P (sym fires.entering) (stands-stepped kept h admin queued (LookReply sitting.seat.job look.decision.case look.due look.decision.next look.decision.put fired.opened) (Some (look_for row look)) (shots_decided kept.tables.groups sitting.at look.decision row) (applied_all kept.tables changes) below here looks opens s rows))

@@ -27,3 +27,8 @@ mod turns;
 
 pub use cluster::Cluster;
 pub use prepared::{Entering, NodeChange, Prepared};
+
+#[cfg(test)]
+mod test_lines;
+#[cfg(test)]
+mod tests;

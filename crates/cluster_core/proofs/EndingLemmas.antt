@@ -2,7 +2,6 @@
 use Rattle.std.proofs.Common.{◌≡◌, ℕ, ◌+◌, ◌*◌, ◌<◌, ◌≤◌, ◌⊎◌, List, [], ◌∷◌, ◌++◌, Bool, true, false, ◌||◌, cond, eqb, nat_lt, Option, Some, None, length, map, take, get_or, min, ◌^◌, ◌-◌, refl, sym, ap, ◌∙◌, subst, ⊎_elim, append-nil, arith}
 use Rattle.std.specs.Prelude.{slice_index_or, ℤ, pos, negsuc}
 use Rattle.std.specs.List.{list_any, concat, find, All, range_with_len, sum}
-use Rattle.std.proofs.lemmas.Bool.{cases_lt}
 use Rattle.std.proofs.lemmas.Bool.Decides.{nat_tests}
 use Rattle.std.proofs.lemmas.List.{append_assoc, map-id, take_more, map_more, get_or_default}
 use Rattle.std.proofs.lemmas.List.Folds.{concat-append}
@@ -16,12 +15,11 @@ use Rattle.job_records.specs.Rows.{row_with, changed}
 use Rattle.job_records.specs.Rules.{HasAddress, KeepsRules}
 use Rattle.job_records.specs.Tables.{Tables}
 use Rattle.job_records.proofs.Keeping.{keeps_log}
-use Rattle.job_records.proofs.PutLemmas.{absent-low}
-use Rattle.job_records.proofs.RowLemmas.{rises-from_rising, absent-above}
+use Rattle.job_records.proofs.RowLemmas.{rises-from_rising}
 use Rattle.trigger_pool.specs.Pool.{PoolState, Queues}
 use Rattle.cluster_history.specs.Logs.{ended_log, log_with}
 use Rattle.cluster_core.specs.Endings.{ending_of, endings, ended_in, over_first}
-use Rattle.cluster_core.proofs.PutLemmas.{found-id, put-changed}
+use Rattle.cluster_core.proofs.PutLemmas.{found-id, found-within, put-changed}
 
 -- one id more
 pub endings-append : (logs : List Log) (xs ys : List ℕ) → endings logs (xs ++ ys) ≡ endings logs xs ++ endings logs ys
@@ -132,21 +130,6 @@ apart h = let never : ◌≡◌ {A = ℕ} 500 200 = ap size-of h in omega arith
 ended-address : (log : Log) → HasAddress (ended_log log)
 ended-address log sent = absurd (apart sent)
 
--- the id of a log that is there was given
-given-least : (t : Tables) (id : ℕ) (log : Log) → KeepsRules t → log_with id t.logs ≡ Some log → 1 ≤ id
-given-least t id log rules found =
-    ⊎_elim (λ (low : id < 1).
-    let none : log_with id t.logs ≡ None = absent-low (λ (l : Log). l.id) 0 id t.logs (rises-from_rising (λ (l : Log). l.id) 0 t.last.log t.logs rules.logs.rising) (omega arith) in absurd (cc))
-    (λ (high : 1 ≤ id). high)
-    (cases_lt id 1)
-
-given-most : (t : Tables) (id : ℕ) (log : Log) → KeepsRules t → log_with id t.logs ≡ Some log → id ≤ t.last.log
-given-most t id log rules found =
-    ⊎_elim (λ (high : t.last.log < id).
-    let none : log_with id t.logs ≡ None = absent-above (λ (l : Log). l.id) 0 t.last.log id t.logs rules.logs.rising high in absurd (cc))
-    (λ (low : id ≤ t.last.log). low)
-    (cases_lt t.last.log id)
-
 -- the changes are allowed, and end the logs with these ids
 pub record EndsLogs (t : Tables) (changes : List Change) (ids : List ℕ) : Type 0 where
   pub allowed : AreAllowed t changes
@@ -162,8 +145,7 @@ ends-first t id ids (Some log) is rules rest =
     let same : log.id ≡ id = found-id (λ (l : Log). l.id) id t.logs log is in
     let put : put_row (λ (l : Log). l.id) (ended_log log) t.logs ≡ changed (λ (l : Log). l.id) id ended_log t.logs = put-changed (λ (l : Log). l.id) ended_log 0 log (ended_log log) t.logs (rises-from_rising (λ (l : Log). l.id) 0 t.last.log t.logs rules.logs.rising) (subst (λ n. log_with n t.logs ≡ Some log) (sym same) is) refl
     ∙ ap (λ n. changed (λ (l : Log). l.id) n ended_log t.logs) same in
-    let least : 1 ≤ id = given-least t id log rules is in
-    let most : id ≤ t.last.log = given-most t id log rules is in
+    let given = found-within (λ (l : Log). l.id) 0 t.last.log id t.logs log rules.logs.rising is in
     let u : Tables = applied t (PutLog (ended_log log)) in
     let kept : KeepsRules u = keeps_log t (ended_log log) rules (omega arith) (omega arith) (ended-address log) in
     let more = rest u kept in

@@ -93,9 +93,9 @@ pub fn queued_logs(running: &Vec<bool>, pools: &Vec<Pools>) -> u64
     ensures { result ≡ queued_of running.now.items (map (λ pool. pool.kept) pools.now.items) ADMINS }
 {
     let mut queued: u64 = 0;
-    for at in 0..ADMINS {
-        if running[at] {
-            queued += pools[at].length(PoolKind::Fast) as u64;
+    for place in 0..ADMINS {
+        if running[place] {
+            queued += pools[place].length(PoolKind::Fast) as u64;
         }
     }
     queued

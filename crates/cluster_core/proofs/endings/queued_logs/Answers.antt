@@ -10,17 +10,17 @@ use Rattle.cluster_core.proofs.endings.queued_logs.Goals.{then-index, else-index
 pub overflow_add-queued : goal.overflow_add-queued
 overflow_add-queued c =
     let pools = map (λ (p : PoolState). p.kept) c.args.pools.now.items in
-    let at : ℕ = c.loop-at.at in
+    let at : ℕ = c.loop-place.place in
     let count : c.length.result ≡ length (pools_at pools at).fast = c.length.ensures ∙ ap (λ (q : Queues). length q.fast) (pools-read c.args.pools.now.items at at c.index-then-index.result.now refl (omega arith) c.index-then-index.ensures) in
     let few : length (pools_at pools at).fast ≤ 1000 = c.requires.few at in
     omega arith
 
-pub loop-at-preserved : goal.loop-at-preserved
-loop-at-preserved c =
+pub loop-place-preserved : goal.loop-place-preserved
+loop-place-preserved c =
     let running = c.args.running.now.items in
     let pools = map (λ (p : PoolState). p.kept) c.args.pools.now.items in
-    let at : ℕ = c.loop-at.at in
-    let before : c.loop-at.queued ≡ queued_of running pools at = c.loop-at.invariant.queued in
+    let at : ℕ = c.loop-place.place in
+    let before : c.loop-place.queued ≡ queued_of running pools at = c.loop-place.invariant.queued in
     let few : length (pools_at pools at).fast ≤ 1000 = c.requires.few at in
     elim c.if-index.branch [
       | then-index w ↦
@@ -34,5 +34,5 @@ loop-at-preserved c =
 
 pub returns : goal.returns
 returns c =
-    let all : c.loop-at.at ≡ 16 = omega arith in
-    c.loop-at.invariant.queued ∙ ap (λ n. queued_of c.args.running.now.items (map (λ (p : PoolState). p.kept) c.args.pools.now.items) n) all
+    let all : c.loop-place.place ≡ 16 = omega arith in
+    c.loop-place.invariant.queued ∙ ap (λ n. queued_of c.args.running.now.items (map (λ (p : PoolState). p.kept) c.args.pools.now.items) n) all

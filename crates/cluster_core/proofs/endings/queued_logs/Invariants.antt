@@ -2,8 +2,8 @@ use Rattle.std.proofs.Common.{◌≡◌, ◌≤◌, ◌*◌, map}
 use Rattle.cluster_core.specs.Endings.{queued_of}
 use Rattle.cluster_core.proofs.endings.queued_logs.Given as goal
 
-abbrev pub invariant-loop-at : goal.invariant-loop-at
-invariant-loop-at l = record {
-  queued : l.queued ≡ queued_of l.running.items (map (λ pool. pool.kept) l.pools.items) l.at;
-  few : l.queued ≤ 1000 * l.at;
+abbrev pub invariant-loop-place : goal.invariant-loop-place
+invariant-loop-place l = record {
+  queued : l.queued ≡ queued_of l.running.items (map (λ pool. pool.kept) l.pools.items) l.place;
+  few : l.queued ≤ 1000 * l.place;
 }

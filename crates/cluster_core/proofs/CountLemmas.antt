@@ -18,7 +18,7 @@ use Rattle.cluster_core.specs.Stands.{Stands, ring_of, pools_of}
 use Rattle.cluster_core.proofs.AdminLemmas.{map-same}
 use Rattle.cluster_core.proofs.RingLemmas.{ring-count}
 
-map-mapped : {X Y Z : Type 0} (f : Y → Z) (g : X → Y) (xs : List X) → map f (map g xs) ≡ map (λ x. f (g x)) xs
+pub map-mapped : {X Y Z : Type 0} (f : Y → Z) (g : X → Y) (xs : List X) → map f (map g xs) ≡ map (λ x. f (g x)) xs
 map-mapped f g [] = refl
 map-mapped f g (x ∷ xs) = ap (λ ys. f (g x) ∷ ys) (map-mapped f g xs)
 

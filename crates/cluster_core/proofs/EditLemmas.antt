@@ -1,10 +1,8 @@
 -- Starts, stops and updates of jobs: the row of a present job is replaced.
-use Rattle.std.proofs.Common.{◌≡◌, ℕ, ◌+◌, ◌<◌, List, [], ◌∷◌, Bool, true, false, cond, eqb, nat_lt, Option, Some, None, Ok, is_some, map, refl, sym, ap, ◌∙◌, subst, arith}
-use Rattle.std.specs.Prelude.{ℤ, Result, if◌then◌else◌}
+use Rattle.std.proofs.Common.{◌≡◌, ℕ, ◌+◌, ◌<◌, List, [], ◌∷◌, Bool, true, false, cond, eqb, nat_lt, Option, Some, None, Ok, is_some, map, inl, refl, sym, ap, ◌∙◌, subst, arith}
+use Rattle.std.specs.Prelude.{if◌then◌else◌}
 use Rattle.std.proofs.lemmas.Bool.Decides.{nat_tests}
 use Rattle.job_values.specs.declared.job.JobSpec.{JobSpec}
-use Rattle.job_values.specs.declared.job.ScheduleFault.{ScheduleFault}
-use Rattle.job_values.specs.declared.cluster.ClusterEvent.{ClusterEvent}
 use Rattle.job_values.specs.declared.cluster.ClusterEvent.TheVariants.{UpdateJob, StartJob, StopJob}
 use Rattle.job_values.specs.declared.cluster.ClusterRefusal.{ClusterRefusal}
 use Rattle.job_values.specs.declared.cluster.ClusterRefusal.TheVariants.{IdsSpent}
@@ -15,11 +13,12 @@ use Rattle.cron_schedule.specs.declared.plan.Plan.{Plan}
 use Rattle.cron_schedule.specs.Parse.{parsed}
 use Rattle.job_records.specs.declared.change.Change.TheVariants as change
 use Rattle.job_records.specs.declared.job.Job.{Job}
-use Rattle.job_records.specs.Rows.{row_with, changed, RisesFrom}
+use Rattle.job_records.specs.Rows.{changed, RisesFrom}
 use Rattle.job_records.specs.Rules.{KeepsRules, RunsByNext, HasItsSchedule, HasGroup}
 use Rattle.job_records.specs.Tables.{Tables}
-use Rattle.job_records.specs.Changes.{put_row, applied_all, AreAllowed}
+use Rattle.job_records.specs.Changes.{put_row, AreAllowed}
 use Rattle.job_records.proofs.RowLemmas.{rises-from_rising}
+use Rattle.job_records.proofs.Keeping.{keeps_job, job_has_rules}
 use Rattle.cluster_history.specs.declared.settings.Settings.{Settings}
 use Rattle.cluster_history.specs.History.{History, After, accepted, settings_of}
 use Rattle.cluster_history.specs.Groups.{groups_of, group_with}
@@ -33,8 +32,7 @@ use Rattle.cluster_core.specs.Plans.{IsPlanned}
 use Rattle.cluster_core.specs.Stands.{Stands, records_of}
 use Rattle.cluster_core.specs.Edits.{updated_row, turned_row}
 use Rattle.cluster_core.proofs.PlanLemmas.{planned-refused}
-use Rattle.cluster_core.proofs.PutLemmas.{put-changed, found-all, found-id}
-use Rattle.cluster_core.proofs.KeptRules.{rules-put_job}
+use Rattle.cluster_core.proofs.PutLemmas.{put-changed, found-id, found-within}
 use Rattle.cluster_core.proofs.RowPlans.{planned-rows}
 
 pub same-id : (id : ℕ) → eqb id id ≡ true
@@ -123,15 +121,17 @@ edit-allowed : (t : Tables) (job : ℕ) (row new : Job) (spec : JobSpec) (plan :
     → parsed spec.kind spec.schedule ≡ Ok plan → is_some (group_with spec.group t.groups) ≡ true → AreAllowed t (change.PutJob new ∷ [])
 edit-allowed t job row new spec plan edition next rules found made said group =
     let id : new.id ≡ job = ap (λ (x : Job). x.id) made ∙ found-id (λ (x : Job). x.id) job t.jobs row found in
-    (
-      rules-put_job t row new rules (subst (λ n. job_with n t.jobs ≡ Some row) (sym id) found) (subst RunsByNext (sym made) refl) (subst HasItsSchedule (sym made) said) (subst (HasGroup t.groups) (sym made) group),
+    let there : job_with new.id t.jobs ≡ Some row = subst (λ n. job_with n t.jobs ≡ Some row) (sym id) found in
+    let within = found-within (λ (x : Job). x.id) 0 t.last.job new.id t.jobs row rules.jobs.rising there in (
+      keeps_job t new rules (omega (arith, within.0)) within.1 (subst RunsByNext (sym made) refl) (subst HasItsSchedule (sym made) said) (subst (HasGroup t.groups) (sym made) group) (inl (ap is_some there)),
       tt,
     )
 
 -- a row in another edition, with another next time
 pub turn-allowed : (t : Tables) (job : ℕ) (row new : Job) (edition : ℕ) (next : Option ℕ) → KeepsRules t → job_with job t.jobs ≡ Some row → new ≡ turned_row edition next row → AreAllowed t (change.PutJob new ∷ [])
 turn-allowed t job row new edition next rules found made =
-    edit-allowed t job row new row.spec row.schedule edition next rules found made (found-all HasItsSchedule (λ (x : Job). x.id) job t.jobs row rules.jobs.schedules found) (found-all (HasGroup t.groups) (λ (x : Job). x.id) job t.jobs row rules.jobs.groups_exist found)
+    let kept = job_has_rules t.groups t.jobs t.last.job job row rules.jobs found in
+    edit-allowed t job row new row.spec row.schedule edition next rules found made kept.1 kept.2
 
 -- an edition that can be raised
 raised : (r : ClusterReply) (edition : ℕ) → edition < LAST_EDITION → (if nat_lt edition LAST_EDITION then r else refused IdsSpent) ≡ r
@@ -151,10 +151,6 @@ row-stands kept h job row found s = subst (λ (t : Tables). job_with job t.jobs 
 rows-rise : (kept : Kept) (h : History) → Stands kept h → RisesFrom (λ x. x.id) 0 (jobs_of h)
 rows-rise kept h s = rises-from_rising (λ (x : Job). x.id) 0 (last_job h) (jobs_of h) (jobs_rise h s.opens)
 
--- a start is refused
-pub start-refused : (kept : Kept) (at job : ℕ) (why : ClusterRefusal) → running_reply kept.settings.offset at (job_with job kept.tables.jobs) ≡ refused why → IsPlanned kept (StartJob at job) (record { reply = Refused why; changes = []; node = node.Nothing })
-start-refused kept at job why says = planned-refused kept (StartJob at job) why (λ h s. start-reply kept h at job s ∙ says)
-
 -- a job is started
 pub start-planned : (kept : Kept) (at job edition next : ℕ) (row new : Job) → KeepsRules kept.tables → job_with job kept.tables.jobs ≡ Some row → first_time kept.settings.offset row.schedule at ≡ Some next → row.edition < LAST_EDITION → edition ≡ row.edition + 1 → new ≡ turned_row edition (Some next) row
     → IsPlanned kept (StartJob at job) (record { reply = Running edition next; changes = change.PutJob new ∷ []; node = node.Nothing })
@@ -162,10 +158,10 @@ start-planned kept at job edition next row new rules found first below raises ma
     planned-rows kept (StartJob at job) (Running edition next) (change.PutJob new ∷ []) (turn-allowed kept.tables job row new edition (Some next) rules found made) refl
     (λ h. record { running = refl; scan = refl; rings = refl; pools = refl })
     (λ h s. start-reply kept h at job s
-      ∙ ap (running_reply kept.settings.offset at) found
-      ∙ ap (edition_reply row.edition) first
-      ∙ raised (Running (row.edition + 1) next) row.edition below
-      ∙ ap (λ n. Running n next) (sym raises))
+    ∙ ap (running_reply kept.settings.offset at) found
+    ∙ ap (edition_reply row.edition) first
+    ∙ raised (Running (row.edition + 1) next) row.edition below
+    ∙ ap (λ n. Running n next) (sym raises))
     (λ h s.
     let there = row-stands kept h job row found s in
     let at_once : Some next ≡ first_time (settings_of h).offset row.schedule at = sym first ∙ ap (λ (x : Settings). first_time x.offset row.schedule at) s.settings in
@@ -174,10 +170,6 @@ start-planned kept at job edition next row new rules found first below raises ma
 
 stop-reply : (kept : Kept) (h : History) (job : ℕ) → Stands kept (accepted h) → reply_of h (StopJob job) ≡ halt_reply (job_with job kept.tables.jobs)
 stop-reply kept h job s = sym (ap (λ (t : Tables). halt_reply (job_with job t.jobs)) s.tables)
-
--- a stop is refused
-pub stop-refused : (kept : Kept) (job : ℕ) (why : ClusterRefusal) → halt_reply (job_with job kept.tables.jobs) ≡ refused why → IsPlanned kept (StopJob job) (record { reply = Refused why; changes = []; node = node.Nothing })
-stop-refused kept job why says = planned-refused kept (StopJob job) why (λ h s. stop-reply kept h job s ∙ says)
 
 -- a job is stopped
 pub stop-planned : (kept : Kept) (job edition : ℕ) (row new : Job) → KeepsRules kept.tables → job_with job kept.tables.jobs ≡ Some row → row.edition < LAST_EDITION → edition ≡ row.edition + 1 → new ≡ turned_row edition None row
@@ -200,10 +192,6 @@ update-reply kept h at job spec s =
     sym (ap (λ (t : Tables). update_reply (is_some (group_with spec.group t.groups)) kept.settings.offset at (parsed spec.kind spec.schedule) (job_with job t.jobs)) s.tables
     ∙ ap (λ (x : Settings). update_reply (is_some (group_with spec.group (groups_of (accepted h)))) x.offset at (parsed spec.kind spec.schedule) (job_with job (jobs_of (accepted h)))) s.settings)
 
--- an update is refused
-pub update-refused : (kept : Kept) (at job : ℕ) (spec : JobSpec) (why : ClusterRefusal) → update_kept kept at job spec ≡ refused why → IsPlanned kept (UpdateJob at job spec) (record { reply = Refused why; changes = []; node = node.Nothing })
-update-refused kept at job spec why says = planned-refused kept (UpdateJob at job spec) why (λ h s. update-reply kept h at job spec s ∙ says)
-
 updated-is : (edition e : ℕ) (o n : Option ℕ) (b : Bool) → cond b (Updated (edition + 1) o) (refused IdsSpent) ≡ Updated e n → (e ≡ edition + 1) × (n ≡ o)
 updated-is edition e o n true says = ((cc), (cc))
 updated-is edition e o n false says = absurd (cc)
@@ -225,7 +213,7 @@ update-found kept at job spec row plan found group said =
 -- an update without a next time, or in the greatest edition, is refused
 pub update-spent : (kept : Kept) (at job : ℕ) (spec : JobSpec) (row : Job) (plan : Plan) (why : ClusterRefusal) → job_with job kept.tables.jobs ≡ Some row → is_some (group_with spec.group kept.tables.groups) ≡ true → parsed spec.kind spec.schedule ≡ Ok plan
     → again_reply row.edition (is_some row.next) (updated_time kept.settings.offset plan at row.next) ≡ refused why → IsPlanned kept (UpdateJob at job spec) (record { reply = Refused why; changes = []; node = node.Nothing })
-update-spent kept at job spec row plan why found group said says = update-refused kept at job spec why (update-found kept at job spec row plan found group said ∙ says)
+update-spent kept at job spec row plan why found group said says = planned-refused kept (UpdateJob at job spec) why (λ h s. update-reply kept h at job spec s ∙ update-found kept at job spec row plan found group said ∙ says)
 
 -- a job is updated
 pub update-planned : (kept : Kept) (at job edition : ℕ) (spec copied : JobSpec) (plan : Plan) (next : Option ℕ) (row new : Job) → KeepsRules kept.tables → job_with job kept.tables.jobs ≡ Some row → is_some (group_with spec.group kept.tables.groups) ≡ true → parsed spec.kind spec.schedule ≡ Ok plan
@@ -240,9 +228,9 @@ update-planned kept at job edition spec copied plan next row new rules found gro
     (λ h s.
     let there = row-stands kept h job row found s in
     let this : new ≡ updated_row spec (plan_of spec) (row.edition + 1) (updated_time (settings_of h).offset (plan_of spec) at row.next) row =
-      is
-      ∙ ap (λ n. updated_row spec plan n next row) raises.0
-      ∙ ap (λ n. updated_row spec plan (row.edition + 1) n row) raises.1
-      ∙ ap (λ (x : Settings). updated_row spec plan (row.edition + 1) (updated_time x.offset plan at row.next) row) s.settings
-      ∙ ap (λ p. updated_row spec p (row.edition + 1) (updated_time (settings_of h).offset p at row.next) row) (sym (plan-parsed spec plan said)) in
+    is
+    ∙ ap (λ n. updated_row spec plan n next row) raises.0
+    ∙ ap (λ n. updated_row spec plan (row.edition + 1) n row) raises.1
+    ∙ ap (λ (x : Settings). updated_row spec plan (row.edition + 1) (updated_time x.offset plan at row.next) row) s.settings
+    ∙ ap (λ p. updated_row spec p (row.edition + 1) (updated_time (settings_of h).offset p at row.next) row) (sym (plan-parsed spec plan said)) in
     ap (with_jobs h) (updated-rows h at job spec row new (Updated edition next) (rows-rise kept h s) there (row-found h job row there) this))

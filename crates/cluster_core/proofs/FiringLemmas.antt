@@ -78,9 +78,11 @@ fired-allowed t queued [] rules room = tt
 fired-allowed t queued (shot ∷ shots) rules room =
     let u : Tables = record t { last = with_last_log t.last (t.last.log + length (shot ∷ shots)) } in
     let raised : KeepsRules u = keeps_last t (with_last_log t.last (t.last.log + length (shot ∷ shots))) rules (omega arith) (omega arith) (omega arith) rules.groups.last_id rules.jobs.last_id room in
-    let P : List Change → Type 0 = λ cs. AreAllowed u cs in
-    (raised, subst P (sym (puts-are t.last.log queued (shot ∷ shots)))
-        (put_logs_allowed u t.last.log (t.last.log + length (shot ∷ shots)) (rows_from t.last.log queued (shot ∷ shots)) raised rules.logs.rising (rows-rise t.last.log queued (shot ∷ shots)) (omega arith) (rows-address t.last.log queued (shot ∷ shots))))
+    let P : List Change → Type 0 = λ cs. AreAllowed u cs in (
+      raised,
+      subst P (sym (puts-are t.last.log queued (shot ∷ shots)))
+          (put_logs_allowed u t.last.log (t.last.log + length (shot ∷ shots)) (rows_from t.last.log queued (shot ∷ shots)) raised rules.logs.rising (rows-rise t.last.log queued (shot ∷ shots)) (omega arith) (rows-address t.last.log queued (shot ∷ shots))),
+    )
 
 -- pools from which nothing was sent yet
 abbrev pub only_fast : List ℕ → Queues

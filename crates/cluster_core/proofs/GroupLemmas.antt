@@ -1,24 +1,24 @@
 -- Plans for the groups.
-use Rattle.std.proofs.Common.{◌≡◌, ℕ, ◌+◌, ◌<◌, ◌≤◌, List, [], ◌∷◌, ◌++◌, Bool, true, false, cond, nat_lt, Some, is_some, length, refl, sym, ap, ◌∙◌, subst, arith}
+use Rattle.std.proofs.Common.{◌≡◌, ℕ, ◌+◌, ◌<◌, List, [], ◌∷◌, ◌++◌, true, cond, nat_lt, Some, is_some, length, inl, inr, refl, sym, ap, ◌∙◌, subst, arith}
 use Rattle.std.proofs.lemmas.Bool.Decides.{nat_tests}
 use Rattle.job_values.specs.declared.numbers.TheConstants.{LAST_JOB_ID}
 use Rattle.job_values.specs.declared.words.GroupKind.{GroupKind}
 use Rattle.job_values.specs.declared.cluster.ClusterEvent.TheVariants.{AddGroup, SetGroup}
-use Rattle.job_values.specs.declared.cluster.ClusterRefusal.{ClusterRefusal}
 use Rattle.job_values.specs.declared.cluster.ClusterRefusal.TheVariants.{NoGroup, TooMany}
-use Rattle.job_values.specs.declared.cluster.ClusterReply.{ClusterReply}
-use Rattle.job_values.specs.declared.cluster.ClusterReply.TheVariants.{Done, Refused, Group as GroupReply}
+use Rattle.job_values.specs.declared.cluster.ClusterReply.TheVariants.{Done, Group as GroupReply}
 use Rattle.job_records.specs.declared.change.Change.{Change}
 use Rattle.job_records.specs.declared.change.Change.TheVariants as change
 use Rattle.job_records.specs.declared.group.Group.{Group}
 use Rattle.job_records.specs.declared.last_ids.LastIds.{LastIds}
 use Rattle.job_records.specs.declared.limits.TheConstants.{MOST_GROUPS}
-use Rattle.job_records.specs.Rows.{changed, IsRising}
+use Rattle.job_records.specs.Rows.{changed}
 use Rattle.job_records.specs.Rules.{KeepsRules}
 use Rattle.job_records.specs.Tables.{Tables}
-use Rattle.job_records.specs.Changes.{put_row, applied, AreAllowed}
+use Rattle.job_records.specs.Changes.{applied, AreAllowed}
 use Rattle.job_records.proofs.RowLemmas.{rises-from_rising}
-use Rattle.cluster_history.specs.History.{History, After, accepted}
+use Rattle.job_records.proofs.PutLemmas.{put_behind}
+use Rattle.job_records.proofs.Keeping.{keeps_last, keeps_group}
+use Rattle.cluster_history.specs.History.{History, accepted}
 use Rattle.cluster_history.specs.Groups.{groups_of, last_group, group_with, group_set}
 use Rattle.cluster_history.specs.Replies.{reply_of, group_reply, done_if, refused}
 use Rattle.cluster_history.proofs.RowIds.{groups_rise}
@@ -26,9 +26,7 @@ use Rattle.cluster_core.specs.declared.prepared.NodeChange.TheVariants as node
 use Rattle.cluster_core.specs.Kept.{Kept}
 use Rattle.cluster_core.specs.Plans.{IsPlanned}
 use Rattle.cluster_core.specs.Stands.{Stands, records_of}
-use Rattle.cluster_core.proofs.PlanLemmas.{planned-refused}
-use Rattle.cluster_core.proofs.PutLemmas.{put-behind, put-changed, found-id}
-use Rattle.cluster_core.proofs.KeptRules.{rules-last, rules-new_group, rules-put_group}
+use Rattle.cluster_core.proofs.PutLemmas.{put-changed, found-id, found-within}
 use Rattle.cluster_core.proofs.RowPlans.{planned-rows}
 
 -- the last ids with that of a new group
@@ -37,11 +35,6 @@ with_last_group id last = record last { group = id }
 
 add-reply : (kept : Kept) (h : History) (app : List ℕ) (kind : GroupKind) (addresses : List (List ℕ)) → Stands kept (accepted h) → reply_of h (AddGroup app kind addresses) ≡ group_reply (length kept.tables.groups) kept.tables.last.group
 add-reply kept h app kind addresses s = sym (ap (λ (t : Tables). group_reply (length t.groups) t.last.group) s.tables)
-
--- a group is refused
-pub add_group-refused : (kept : Kept) (app : List ℕ) (kind : GroupKind) (addresses : List (List ℕ)) (why : ClusterRefusal) → group_reply (length kept.tables.groups) kept.tables.last.group ≡ refused why
-    → IsPlanned kept (AddGroup app kind addresses) (record { reply = Refused why; changes = []; node = node.Nothing })
-add_group-refused kept app kind addresses why says = planned-refused kept (AddGroup app kind addresses) why (λ h s. add-reply kept h app kind addresses s ∙ says)
 
 group-room : (count last : ℕ) → count < MOST_GROUPS → last < LAST_JOB_ID → group_reply count last ≡ GroupReply (last + 1)
 group-room count last room ids =
@@ -60,8 +53,8 @@ add-allowed t new last rules room ids here is =
     let job : last.job ≡ t.last.job = ap (λ (x : LastIds). x.job) is in
     let log : last.log ≡ t.last.log = ap (λ (x : LastIds). x.log) is in
     let most : t.last.group < 2147483647 = ids in
-    let raised = rules-last t last rules (omega arith) (omega arith) (omega arith) (omega (arith, rules.jobs.last_id)) (omega arith) (omega (arith, rules.logs.last_id)) in
-    (raised, (rules-new_group (applied t (change.LastIds last)) t.last.group new raised rules.groups.rising (omega arith) (sym group) room, tt))
+    let raised = keeps_last t last rules (omega arith) (omega arith) (omega arith) (omega arith) (omega (arith, rules.jobs.last_id)) (omega (arith, rules.logs.last_id)) in
+    (raised, (keeps_group (applied t (change.LastIds last)) new raised (omega arith) (omega arith) (inr room), tt))
 
 -- the rows and the last ids with other groups
 abbrev with_groups : History → List Group → LastIds → Tables
@@ -80,7 +73,7 @@ add_group-planned kept app copied kind addresses list id last rules room ids her
     let number : id ≡ last_group h + 1 = here ∙ ap (λ (t : Tables). t.last.group + 1) s.tables in
     let lasts : last ≡ with_last_group (last_group h + 1) (records_of h).last = is ∙ ap (λ n. with_last_group n kept.tables.last) number ∙ ap (λ (t : Tables). with_last_group (last_group h + 1) t.last) s.tables in
     let row : new ≡ record { id = last_group h + 1; app = app; kind = kind; addresses = addresses } = (cc) in
-    let behind = put-behind (λ (g : Group). g.id) 0 (last_group h) new (groups_of h) (groups_rise h s.opens) (omega arith) in
+    let behind = put_behind (λ (g : Group). g.id) 0 (last_group h) new (groups_of h) (groups_rise h s.opens) (omega arith) in
     ap (λ gs. with_groups h gs last) behind
     ∙ ap (λ g. with_groups h (groups_of h ++ g ∷ []) last) row
     ∙ ap (λ l. with_groups h (groups_of h ++ record { id = last_group h + 1; app = app; kind = kind; addresses = addresses } ∷ []) l) lasts)
@@ -88,17 +81,14 @@ add_group-planned kept app copied kind addresses list id last rules room ids her
 set-reply : (kept : Kept) (h : History) (group : ℕ) (kind : GroupKind) (addresses : List (List ℕ)) → Stands kept (accepted h) → reply_of h (SetGroup group kind addresses) ≡ done_if (is_some (group_with group kept.tables.groups)) NoGroup
 set-reply kept h group kind addresses s = sym (ap (λ (t : Tables). done_if (is_some (group_with group t.groups)) NoGroup) s.tables)
 
--- a change of a group that is not there is refused
-pub set_group-refused : (kept : Kept) (group : ℕ) (kind : GroupKind) (addresses : List (List ℕ)) → is_some (group_with group kept.tables.groups) ≡ false
-    → IsPlanned kept (SetGroup group kind addresses) (record { reply = Refused NoGroup; changes = []; node = node.Nothing })
-set_group-refused kept group kind addresses absent = planned-refused kept (SetGroup group kind addresses) NoGroup (λ h s. set-reply kept h group kind addresses s ∙ ap (λ b. done_if b NoGroup) absent)
-
 -- a group gets another kind and other addresses
 pub set_group-planned : (kept : Kept) (group : ℕ) (kind : GroupKind) (addresses : List (List ℕ)) (row new : Group) → KeepsRules kept.tables → group_with group kept.tables.groups ≡ Some row → new ≡ group_set kind addresses row
     → IsPlanned kept (SetGroup group kind addresses) (record { reply = Done; changes = change.PutGroup new ∷ []; node = node.Nothing })
 set_group-planned kept group kind addresses row new rules found made =
     let id : new.id ≡ group = ap (λ (x : Group). x.id) made ∙ found-id (λ (x : Group). x.id) group kept.tables.groups row found in
-    planned-rows kept (SetGroup group kind addresses) Done (change.PutGroup new ∷ []) (rules-put_group kept.tables row new rules (subst (λ n. group_with n kept.tables.groups ≡ Some row) (sym id) found), tt) refl
+    let present : group_with new.id kept.tables.groups ≡ Some row = subst (λ n. group_with n kept.tables.groups ≡ Some row) (sym id) found in
+    let within = found-within (λ (x : Group). x.id) 0 kept.tables.last.group new.id kept.tables.groups row rules.groups.rising present in
+    planned-rows kept (SetGroup group kind addresses) Done (change.PutGroup new ∷ []) (keeps_group kept.tables new rules (omega (arith, within.0)) within.1 (inl (ap is_some present)), tt) refl
     (λ h. record { running = refl; scan = refl; rings = refl; pools = refl })
     (λ h s. set-reply kept h group kind addresses s ∙ ap (λ o. done_if (is_some o) NoGroup) found)
     (λ h s.

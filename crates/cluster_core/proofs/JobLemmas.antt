@@ -1,17 +1,14 @@
 -- Plans that add and remove jobs.
-use Rattle.std.proofs.Common.{◌≡◌, ℕ, ◌+◌, ◌<◌, ◌≤◌, List, [], ◌∷◌, ◌++◌, Bool, true, false, cond, eqb, not, nat_lt, Some, None, Ok, is_some, length, map, refl, sym, ap, ◌∙◌, subst, arith}
-use Rattle.std.specs.Prelude.{Result}
+use Rattle.std.proofs.Common.{◌≡◌, ℕ, ◌+◌, ◌<◌, ◌≤◌, List, [], ◌∷◌, ◌++◌, Bool, true, false, cond, eqb, not, nat_lt, None, Ok, is_some, length, map, inr, refl, sym, ap, ◌∙◌, subst, arith}
 use Rattle.std.specs.List.{filter}
 use Rattle.std.proofs.lemmas.Bool.Decides.{nat_tests}
 use Rattle.std.proofs.lemmas.List.{map-append}
 use Rattle.job_values.specs.declared.numbers.TheConstants.{LAST_JOB_ID}
 use Rattle.job_values.specs.declared.job.JobSpec.{JobSpec}
-use Rattle.job_values.specs.declared.job.ScheduleFault.{ScheduleFault}
 use Rattle.job_values.specs.declared.cluster.ClusterEvent.TheVariants.{AddJob, RemoveJob}
-use Rattle.job_values.specs.declared.cluster.ClusterRefusal.{ClusterRefusal}
 use Rattle.job_values.specs.declared.cluster.ClusterRefusal.TheVariants.{NoJob, TooMany}
 use Rattle.job_values.specs.declared.cluster.ClusterReply.{ClusterReply}
-use Rattle.job_values.specs.declared.cluster.ClusterReply.TheVariants.{Done, Refused, Job as JobReply}
+use Rattle.job_values.specs.declared.cluster.ClusterReply.TheVariants.{Done, Job as JobReply}
 use Rattle.cron_schedule.specs.declared.plan.Plan.{Plan}
 use Rattle.cron_schedule.specs.Parse.{parsed}
 use Rattle.job_records.specs.declared.change.Change.{Change}
@@ -22,8 +19,10 @@ use Rattle.job_records.specs.declared.limits.TheConstants.{MOST_JOBS}
 use Rattle.job_records.specs.Rows.{IsRising}
 use Rattle.job_records.specs.Rules.{KeepsRules}
 use Rattle.job_records.specs.Tables.{Tables}
-use Rattle.job_records.specs.Changes.{put_row, without, applied, AreAllowed}
+use Rattle.job_records.specs.Changes.{without, applied, AreAllowed}
 use Rattle.job_records.proofs.RowLemmas.{rising-ends}
+use Rattle.job_records.proofs.PutLemmas.{put_behind}
+use Rattle.job_records.proofs.Keeping.{keeps_last, keeps_job, keeps_drop_job}
 use Rattle.cluster_history.specs.History.{History, After, accepted}
 use Rattle.cluster_history.specs.Groups.{group_with}
 use Rattle.cluster_history.specs.Looks.{job_with}
@@ -35,9 +34,6 @@ use Rattle.cluster_core.specs.Edits.{new_row}
 use Rattle.cluster_core.specs.Kept.{Kept}
 use Rattle.cluster_core.specs.Plans.{IsPlanned}
 use Rattle.cluster_core.specs.Stands.{Stands, records_of}
-use Rattle.cluster_core.proofs.PlanLemmas.{planned-refused}
-use Rattle.cluster_core.proofs.PutLemmas.{put-behind}
-use Rattle.cluster_core.proofs.KeptRules.{rules-last, rules-new_job, rules-drop_job}
 use Rattle.cluster_core.proofs.RowPlans.{planned-rows}
 use Rattle.cluster_core.proofs.EditLemmas.{plan-parsed, same-id}
 
@@ -57,20 +53,11 @@ add-reply : (kept : Kept) (h : History) (spec : JobSpec) → Stands kept (accept
 add-reply kept h spec s =
     sym (ap (λ (t : Tables). job_reply (is_some (group_with spec.group t.groups)) (parsed spec.kind spec.schedule) (length t.jobs) t.last.job) s.tables)
 
--- a job is refused
-pub add_job-refused : (kept : Kept) (spec : JobSpec) (why : ClusterRefusal) → job_kept kept spec ≡ refused why → IsPlanned kept (AddJob spec) (record { reply = Refused why; changes = []; node = node.Nothing })
-add_job-refused kept spec why says = planned-refused kept (AddJob spec) why (λ h s. add-reply kept h spec s ∙ says)
-
 -- the reply where the group is there and the text is a schedule
 job-reply_found : (kept : Kept) (spec : JobSpec) (plan : Plan) → is_some (group_with spec.group kept.tables.groups) ≡ true → parsed spec.kind spec.schedule ≡ Ok plan → job_kept kept spec ≡ room_reply (length kept.tables.jobs) kept.tables.last.job
 job-reply_found kept spec plan group said =
     ap (λ b. job_reply b (parsed spec.kind spec.schedule) (length kept.tables.jobs) kept.tables.last.job) group
     ∙ ap (λ x. schedule_reply x (length kept.tables.jobs) kept.tables.last.job) said
-
--- a job for which there is no room or no id is refused
-pub add_job-full : (kept : Kept) (spec : JobSpec) (plan : Plan) (why : ClusterRefusal) → is_some (group_with spec.group kept.tables.groups) ≡ true → parsed spec.kind spec.schedule ≡ Ok plan → room_reply (length kept.tables.jobs) kept.tables.last.job ≡ refused why
-    → IsPlanned kept (AddJob spec) (record { reply = Refused why; changes = []; node = node.Nothing })
-add_job-full kept spec plan why group said says = add_job-refused kept spec why (job-reply_found kept spec plan group said ∙ says)
 
 job-room : (count last : ℕ) → count < MOST_JOBS → last < LAST_JOB_ID → room_reply count last ≡ JobReply (last + 1)
 job-room count last room ids =
@@ -86,8 +73,8 @@ add-allowed t spec plan id last rules group said room ids here is =
     let job : last.job ≡ id = ap (λ (x : LastIds). x.job) is in
     let log : last.log ≡ t.last.log = ap (λ (x : LastIds). x.log) is in
     let most : t.last.job < 2147483647 = ids in
-    let raised = rules-last t last rules (omega arith) (omega (arith, rules.groups.last_id)) (omega arith) (omega arith) (omega arith) (omega (arith, rules.logs.last_id)) in
-    (raised, (rules-new_job (applied t (change.LastIds last)) t.last.job (new_row id spec plan) raised rules.jobs.rising (omega arith) (sym job) room refl said group, tt))
+    let raised = keeps_last t last rules (omega arith) (omega arith) (omega arith) (omega (arith, rules.groups.last_id)) (omega arith) (omega (arith, rules.logs.last_id)) in
+    (raised, (keeps_job (applied t (change.LastIds last)) (new_row id spec plan) raised (omega arith) (omega arith) refl said group (inr room), tt))
 
 -- a job's row, by whether it is the one that is added
 abbrev row_added : History → JobSpec → Bool → ℕ → Job
@@ -127,8 +114,8 @@ add_job-planned kept spec copied plan id last rules group said room ids here sam
     let lasts : last ≡ with_last_job (last_job h + 1) (records_of h).last = is ∙ ap (λ n. with_last_job n kept.tables.last) number ∙ ap (λ (t : Tables). with_last_job (last_job h + 1) t.last) s.tables in
     let rising = jobs_rise h s.opens in
     let row : new_row id copied plan ≡ new_row (last_job h + 1) spec (plan_of spec) =
-      ap (λ n. new_row n copied plan) number ∙ ap (λ x. new_row (last_job h + 1) x plan) same ∙ ap (λ p. new_row (last_job h + 1) spec p) (sym (plan-parsed spec plan said)) in
-    let behind = put-behind (λ (j : Job). j.id) 0 (last_job h) (new_row id copied plan) (jobs_of h) rising (omega arith) in
+    ap (λ n. new_row n copied plan) number ∙ ap (λ x. new_row (last_job h + 1) x plan) same ∙ ap (λ p. new_row (last_job h + 1) spec p) (sym (plan-parsed spec plan said)) in
+    let behind = put_behind (λ (j : Job). j.id) 0 (last_job h) (new_row id copied plan) (jobs_of h) rising (omega arith) in
     ap (λ js. with_jobs h js last) (behind ∙ ap (λ x. jobs_of h ++ x ∷ []) row ∙ sym (jobs-added h spec (JobReply id) rising))
     ∙ ap (λ l. with_jobs h (jobs_of (After h (AddJob spec) (JobReply id))) l) lasts)
 
@@ -146,14 +133,10 @@ rows-without h job (j ∷ ids) =
 remove-reply : (kept : Kept) (h : History) (job : ℕ) → Stands kept (accepted h) → reply_of h (RemoveJob job) ≡ done_if (is_some (job_with job kept.tables.jobs)) NoJob
 remove-reply kept h job s = sym (ap (λ (t : Tables). done_if (is_some (job_with job t.jobs)) NoJob) s.tables)
 
--- a removal of a job that is not there is refused
-pub remove-refused : (kept : Kept) (job : ℕ) → is_some (job_with job kept.tables.jobs) ≡ false → IsPlanned kept (RemoveJob job) (record { reply = Refused NoJob; changes = []; node = node.Nothing })
-remove-refused kept job absent = planned-refused kept (RemoveJob job) NoJob (λ h s. remove-reply kept h job s ∙ ap (λ b. done_if b NoJob) absent)
-
 -- a job is removed
 pub remove-planned : (kept : Kept) (job : ℕ) → KeepsRules kept.tables → is_some (job_with job kept.tables.jobs) ≡ true → IsPlanned kept (RemoveJob job) (record { reply = Done; changes = change.DropJob job ∷ []; node = node.Nothing })
 remove-planned kept job rules present =
-    planned-rows kept (RemoveJob job) Done (change.DropJob job ∷ []) (rules-drop_job kept.tables job rules, tt) refl
+    planned-rows kept (RemoveJob job) Done (change.DropJob job ∷ []) (keeps_drop_job kept.tables job rules, tt) refl
     (λ h. record { running = refl; scan = refl; rings = refl; pools = refl })
     (λ h s. remove-reply kept h job s ∙ ap (λ b. done_if b NoJob) present)
     (λ h s. ap (λ js. with_jobs h js (records_of h).last) (rows-without h job (ids_of h)))

@@ -10,12 +10,14 @@ pub mod OpeningLemmas
 pub mod FiringLemmas
 pub mod FireLemmas
 pub mod CountLemmas
+pub mod TurnLemmas
 pub mod ShownLemmas
 pub mod PutLemmas
-pub mod KeptRules
 pub mod RowPlans
 pub mod EditLemmas
 pub mod GroupLemmas
 pub mod JobLemmas
+pub mod EndingLemmas
+pub mod StopLemmas
 pub mod ScanLemmas
 pub mod StepLemmas

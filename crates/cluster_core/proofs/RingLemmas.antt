@@ -1,5 +1,5 @@
 -- The rings of the admins, over the tickets that wait in them.
-use Rattle.std.proofs.Common.{◌≡◌, ℕ, zero, suc, ◌+◌, ◌<◌, ◌/◌, ◌%◌, List, [], ◌∷◌, ◌++◌, Bool, true, false, not, ◌&&◌, ◌||◌, cond, eqb, nat_lt, length, map, filter, get_or, set, replicate, refl, sym, ap, ◌∙◌, subst, ⊎_elim, ◌⊎◌, inl, inr, append-nil, arith}
+use Rattle.std.proofs.Common.{◌≡◌, ℕ, zero, suc, ◌+◌, ◌<◌, List, [], ◌∷◌, ◌++◌, Bool, true, false, not, ◌&&◌, cond, eqb, nat_lt, length, map, filter, get_or, set, refl, sym, ap, ◌∙◌, subst, ⊎_elim, ◌⊎◌, inl, inr, append-nil, arith}
 use Rattle.std.proofs.lemmas.Bool.{cases_eq}
 use Rattle.std.proofs.lemmas.Bool.Decides.{nat_tests}
 use Rattle.std.proofs.lemmas.List.{get_or-set_same, get_or-set_other, length-set, length-map, map-append}
@@ -7,9 +7,8 @@ use Rattle.std.proofs.lemmas.List.Elements.{filter-append}
 use Rattle.std.proofs.lemmas.List.FromFn.{length-map-range_with_len, get_or-map-range_with_len, fill_by_all, sum_by-map-range_with_len_more}
 use Rattle.std.proofs.lemmas.List.Sums.{sum_by-cons, length-filter}
 use Rattle.std.proofs.lemmas.Simd.{splat_is_map}
-use Rattle.std.specs.Prelude.{count_by, sum_by, slice_index_or, slice_set, None, Some}
+use Rattle.std.specs.Prelude.{count_by, sum_by, slice_set, Some}
 use Rattle.std.specs.List.{range_with_len}
-use Rattle.time_ring.specs.declared.limits.TheConstants.{SLOTS}
 use Rattle.time_ring.specs.declared.ticket.Ticket.{Ticket as RingTicket}
 use Rattle.time_ring.specs.Ring.{slot_of, slot_of_second, slot_before, tickets_in, with_ticket, after_turn, ticket_count, no_tickets}
 use Rattle.cluster_history.specs.declared.ticket.Ticket.{Ticket}

@@ -1,5 +1,7 @@
 -- Plans that change the rows alone.
-use Rattle.std.proofs.Common.{◌≡◌, List, false, map, sym, ap, ◌∙◌, subst}
+use Rattle.std.proofs.Common.{◌≡◌, List, Bool, true, false, not, Option, Some, None, is_some, map, refl, sym, ap, ◌∙◌, subst}
+use Rattle.std.specs.Borrow.{Bor}
+use Rattle.std.specs.Option.{option_copied}
 use Rattle.job_values.specs.declared.cluster.ClusterEvent.{ClusterEvent}
 use Rattle.job_values.specs.declared.cluster.ClusterReply.{ClusterReply}
 use Rattle.job_records.specs.declared.change.Change.{Change}
@@ -44,3 +46,11 @@ pub planned-seen : (inside seen : ClusterState) (e : ClusterEvent) (r : ClusterR
 planned-seen inside seen e r made changes view same is =
     let P : ClusterState → Type 0 = λ state. IsPlanned (kept_of state) e (record { reply = r; changes = made; node = node.Nothing }) in
     subst P view (subst (λ cs. IsPlanned (kept_of inside) e (record { reply = r; changes = cs; node = node.Nothing })) (sym same) is)
+
+copied-some : {X : Type 0} (o : Option (Bor X)) → is_some (option_copied o) ≡ is_some o
+copied-some None = refl
+copied-some (Some x) = refl
+
+-- a look-up that is not none finds a row
+pub seen-some : {X : Type 0} (o : Option (Bor X)) (found : Option X) (none : Bool) → option_copied o ≡ found → is_some o ≡ not none → none ≡ false → is_some found ≡ true
+seen-some o found none looks says there = sym (ap is_some looks) ∙ copied-some o ∙ says ∙ ap not there

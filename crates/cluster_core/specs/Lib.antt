@@ -5,4 +5,6 @@ pub mod Plans
 pub mod Steps
 pub mod Openings
 pub mod Firing
+pub mod Turning
 pub mod Edits
+pub mod Endings

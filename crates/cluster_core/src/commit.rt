@@ -14,7 +14,6 @@ use cluster_history::Scan;
 use job_values::AdminNo;
 use trigger_pool::Pools;
 
-
 /// A stop of its owner ends the scan.
 fn close_of(scan: &mut Option<Scan>, admin: AdminNo)
     ensures { scan.new ≡ unless_owner admin scan.old }

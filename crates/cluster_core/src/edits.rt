@@ -14,12 +14,10 @@ use super::ids::next_edition;
 use super::jobs::schedule_said;
 use super::prepared::{NodeChange, Prepared};
 use cluster_history::limits::LOOK_AHEAD;
-use cron_schedule::laws::law_after_rises;
 use cron_schedule::Schedule;
+use cron_schedule::laws::law_after_rises;
 use job_records::{Change, Job};
-use job_values::{
-    ClusterRefusal, ClusterReply, Edition, JobId, JobSpec, Moment, NoMemory, Offset,
-};
+use job_values::{ClusterRefusal, ClusterReply, Edition, JobId, JobSpec, Moment, NoMemory, Offset};
 use std::alloc::Global;
 
 /// The first due time of a job that is started at a moment.

@@ -78,11 +78,13 @@ impl Cluster {
         let Some(row) = self.records.group(group) else {
             return Ok(Prepared::refusal(self.alloc, ClusterRefusal::NoGroup));
         };
+        let app = row.app.copy(self.alloc)?;
+        let addresses = copy_addresses(self.alloc, addresses)?;
         let set = Group {
             id: row.id,
-            app: row.app.copy(self.alloc)?,
+            app,
             kind,
-            addresses: copy_addresses(self.alloc, addresses)?,
+            addresses,
         };
         let changes = one_change(self.alloc, Change::PutGroup(set))?;
         Ok(Prepared {

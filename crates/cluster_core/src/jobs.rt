@@ -33,12 +33,7 @@ pub fn schedule_said(
 }
 
 /// The row of a new job.
-fn new_job(
-    alloc: Global,
-    id: JobId,
-    spec: &JobSpec,
-    schedule: Schedule,
-) -> Result<Job, NoMemory>
+fn new_job(alloc: Global, id: JobId, spec: &JobSpec, schedule: Schedule) -> Result<Job, NoMemory>
     ensures { IfOk result (λ job. job ≡ new_row id spec.now schedule) }
 {
     let spec = spec.copy(alloc)?;

@@ -7,6 +7,7 @@ pub mod cluster;
 mod commit;
 mod counts;
 mod edits;
+mod endings;
 mod fires;
 mod firing;
 mod groups;
@@ -27,3 +28,7 @@ mod turns;
 pub use cluster::Cluster;
 pub use prepared::{Entering, NodeChange, Prepared};
 
+#[cfg(test)]
+mod test_lines;
+#[cfg(test)]
+mod tests;

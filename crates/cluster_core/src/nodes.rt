@@ -5,8 +5,9 @@ ghost use Rattle.cluster_core.specs.Kept.{kept_of};
 ghost use Rattle.cluster_core.specs.Plans.{IsPlanned};
 
 use super::cluster::Cluster;
+use super::endings::{end_all, end_logs, lost_tickets, queued_logs};
 use super::prepared::{NodeChange, Prepared};
-use job_values::{AdminNo, ClusterRefusal, ClusterReply, NoMemory, Seq};
+use job_values::{AdminNo, ClusterRefusal, ClusterReply, NoMemory, PoolKind, Seq};
 
 impl Cluster {
     /// An admin starts.
@@ -27,7 +28,22 @@ impl Cluster {
     pub(crate) fn plan_stop(&self, admin: AdminNo) -> Result<Prepared, NoMemory>
         ensures { IfOk result (IsPlanned (kept_of self.now) (NodeStop admin)) }
     {
-        Err(NoMemory)
+        if !self.is_running(admin) {
+            let why = ClusterRefusal::NodeStopped(admin);
+            return Ok(Prepared::refusal(self.alloc, why));
+        }
+        let place = admin.get() as usize;
+        let lost = self.rings[place].count();
+        let pools = &self.pools[place];
+        let ended = pools.length(PoolKind::Fast) as u64;
+        let queue = pools.waiting(PoolKind::Fast);
+        let mut changes = Vec::new(self.alloc);
+        end_logs(self.alloc, &self.records, queue, &mut changes)?;
+        Ok(Prepared {
+            reply: ClusterReply::Stopped(lost, ended),
+            changes: Seq::of(changes),
+            node: NodeChange::Stops(admin),
+        })
     }
 
     /// Whether an admin runs.
@@ -44,6 +60,14 @@ impl Cluster {
     pub(crate) fn plan_reopen(&self) -> Result<Prepared, NoMemory>
         ensures { IfOk result (IsPlanned (kept_of self.now) Reopen) }
     {
-        Err(NoMemory)
+        let lost = lost_tickets(&self.running, &self.rings);
+        let ended = queued_logs(&self.running, &self.pools);
+        let mut changes = Vec::new(self.alloc);
+        end_all(self.alloc, &self.records, &self.pools, &mut changes)?;
+        Ok(Prepared {
+            reply: ClusterReply::Reopened(lost, ended),
+            changes: Seq::of(changes),
+            node: NodeChange::StopsAll,
+        })
     }
 }

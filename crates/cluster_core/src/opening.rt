@@ -130,7 +130,13 @@ fn open_one(
     let opened = Opened { log: id, pool };
     let log = new_log(alloc, row, param, kind, time, shard, &opened)?;
     push_row(&mut openings.puts, Change::PutLog(log))?;
-    push_row(&mut openings.entering, Entering { log: id, job: row.id })?;
+    push_row(
+        &mut openings.entering,
+        Entering {
+            log: id,
+            job: row.id,
+        },
+    )?;
     openings.last += 1;
     if openings.queued < MOST_FAST {
         openings.queued += 1;
@@ -168,7 +174,12 @@ pub fn open_logs(
 
 /// The changes of the rows once logs were opened: the new last log id, and the rows. None where no
 /// log was opened.
-pub fn opened_changes(alloc: Global, last: LastIds, log: u64, puts: Vec<Change>) -> Result<Vec<Change>, NoMemory>
+pub fn opened_changes(
+    alloc: Global,
+    last: LastIds,
+    log: u64,
+    puts: Vec<Change>,
+) -> Result<Vec<Change>, NoMemory>
     ensures { IfOk result (λ changes. changes.items ≡ opening_changes last log puts.items) }
 {
     if puts.is_empty() {

@@ -10,7 +10,6 @@ use job_values::{AdminNo, NoMemory, Seq};
 use std::alloc::Global;
 use trigger_pool::Pools;
 
-
 /// Pools without logs for each admin.
 pub fn no_pools(alloc: Global) -> Result<Vec<Pools>, NoMemory>
     ensures { IfOk result (λ pools. map (λ pool. pool.kept) pools.items ≡ replicate ADMINS no_logs) }

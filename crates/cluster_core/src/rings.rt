@@ -9,7 +9,6 @@ use job_values::{AdminNo, NoMemory};
 use std::alloc::Global;
 use time_ring::{Ticket, TimeRing};
 
-
 /// A ring without tickets for each admin.
 pub fn empty_rings(alloc: Global) -> Result<Vec<TimeRing>, NoMemory>
     ensures { IfOk result (λ rings. map (λ ring. ring.slots) rings.items ≡ replicate ADMINS no_tickets) }
@@ -23,7 +22,11 @@ pub fn empty_rings(alloc: Global) -> Result<Vec<TimeRing>, NoMemory>
 
 /// Makes room for a ticket, if there is one, in the ring of one of the admins. It moves no ticket,
 /// whatever it answers.
-pub fn reserve_at(rings: &mut Vec<TimeRing>, admin: AdminNo, put: &Option<Ticket>) -> Result<(), NoMemory>
+pub fn reserve_at(
+    rings: &mut Vec<TimeRing>,
+    admin: AdminNo,
+    put: &Option<Ticket>,
+) -> Result<(), NoMemory>
     requires { length rings.old.items ≡ ADMINS }
     ensures room { OnOk result (HasRoomToPut (ring_room rings.new.items admin) put.now) }
     ensures same { map (λ ring. ring.slots) rings.new.items ≡ map (λ ring. ring.slots) rings.old.items }

@@ -1,18 +1,161 @@
-//! The turns of the rings.
-ghost use Rattle.std.specs.Prelude.{IfOk};
+//! The turns of the rings: the tickets of two slots fire.
+ghost use Rattle.std.specs.Prelude.{◌≡◌, ◌≤◌, [], ◌∷◌, ◌++◌, IfOk};
+ghost use Rattle.job_values.specs.declared.numbers.TheConstants.{LAST_LOG_ID};
 ghost use Rattle.job_values.specs.declared.cluster.ClusterEvent.TheVariants.{Turn};
-ghost use Rattle.cluster_core.specs.Kept.{kept_of};
+ghost use Rattle.time_ring.specs.Ring.{slot_of_second, slot_before, tickets_in};
+ghost use Rattle.cluster_core.specs.Kept.{kept_of, ring_at};
 ghost use Rattle.cluster_core.specs.Plans.{IsPlanned};
+ghost use Rattle.cluster_core.specs.Turning.{shots_at, OpensTicket, FiresAll};
 
 use super::cluster::Cluster;
-use super::prepared::Prepared;
-use job_values::{AdminNo, Moment, NoMemory};
+use super::ids::push_row;
+use super::opening::{Openings, open_logs, opened_changes, shard_count};
+use super::prepared::{NodeChange, Prepared};
+use job_records::Records;
+use job_values::numbers::LAST_LOG_ID;
+use job_values::{
+    AdminNo, ClusterRefusal, ClusterReply, FiredTicket, Moment, NoMemory, Opened, Seq, TriggerKind,
+};
+use std::alloc::Global;
+use time_ring::Ticket;
+use time_ring::limits::SECOND;
+
+/// What a turn has opened so far, and the tickets that it has fired, each with its logs.
+#[derive(Drop)]
+pub struct Turned {
+    pub openings: Openings,
+    pub fired: Vec<FiredTicket>,
+}
+
+/// Opens the logs of a ticket; None where the ids are spent. A ticket of a job that is gone opens
+/// none.
+fn open_ticket(
+    alloc: Global,
+    records: &Records,
+    at: Moment,
+    ticket: &Ticket,
+    openings: &mut Openings,
+) -> Result<Option<Seq<Opened>>, NoMemory>
+    requires { openings.old.last ≤ LAST_LOG_ID }
+    ensures { IfOk result (OpensTicket (shots_at records.now.kept at ticket.now) openings.old openings.new) }
+{
+    let Some(row) = records.job(ticket.job) else {
+        return Ok(Some(Seq::new(alloc)));
+    };
+    let total = shard_count(records, &row.spec);
+    if openings.last + total as u64 > LAST_LOG_ID {
+        return Ok(None);
+    }
+    let param = &row.spec.param;
+    let opened = open_logs(alloc, row, param, TriggerKind::Cron, at, total, openings)?;
+    Ok(Some(opened))
+}
+
+/// Fires a ticket; false where the ids are spent.
+fn fire_ticket(
+    alloc: Global,
+    records: &Records,
+    at: Moment,
+    ticket: &Ticket,
+    turned: &mut Turned,
+) -> Result<bool, NoMemory>
+    requires { turned.old.openings.last ≤ LAST_LOG_ID }
+    ensures { IfOk result (FiresAll records.now.kept at (ticket.now ∷ []) turned.old turned.new) }
+{
+    let opened = open_ticket(alloc, records, at, ticket, &mut turned.openings)?;
+    let Some(opened) = opened else {
+        return Ok(false);
+    };
+    let fired = FiredTicket {
+        job: ticket.job,
+        edition: ticket.edition,
+        due: ticket.due,
+        opened,
+    };
+    push_row(&mut turned.fired, fired)?;
+    Ok(true)
+}
+
+/// Fires tickets, one after another; false where the ids are spent.
+fn fire_tickets(
+    alloc: Global,
+    records: &Records,
+    at: Moment,
+    tickets: &[Ticket],
+    turned: &mut Turned,
+) -> Result<bool, NoMemory>
+    requires { turned.old.openings.last ≤ LAST_LOG_ID }
+    ensures { IfOk result (FiresAll records.now.kept at tickets.now turned.old turned.new) }
+{
+    for ticket in tickets {
+        let fits = fire_ticket(alloc, records, at, ticket, turned)?;
+        if !fits {
+            return Ok(false);
+        }
+    }
+    Ok(true)
+}
+
+/// Fires the tickets of the slot of a second, then those of the slot before; false where the ids are
+/// spent.
+fn fire_slots(
+    alloc: Global,
+    records: &Records,
+    at: Moment,
+    present: &[Ticket],
+    past: &[Ticket],
+    turned: &mut Turned,
+) -> Result<bool, NoMemory>
+    requires { turned.old.openings.last ≤ LAST_LOG_ID }
+    ensures { IfOk result (FiresAll records.now.kept at (present.now ++ past.now) turned.old turned.new) }
+{
+    let fits = fire_tickets(alloc, records, at, present, turned)?;
+    if !fits {
+        return Ok(false);
+    }
+    fire_tickets(alloc, records, at, past, turned)
+}
 
 impl Cluster {
+    /// The tickets in the slot of a second of an admin's ring, and in the slot before.
+    fn slots_at(&self, admin: AdminNo, second: u64) -> (&[Ticket], &[Ticket])
+        ensures present { result.0.now ≡ tickets_in (ring_at (kept_of self.now).rings admin) (slot_of_second second) }
+        ensures past { result.1.now ≡ tickets_in (ring_at (kept_of self.now).rings admin) (slot_before second) }
+    {
+        self.rings[admin.get() as usize].slots(second)
+    }
+
     /// The ring of an admin turns, and fires the tickets of two slots.
     pub(crate) fn plan_turn(&self, admin: AdminNo, at: Moment) -> Result<Prepared, NoMemory>
         ensures { IfOk result (IsPlanned (kept_of self.now) (Turn admin at)) }
     {
-        Err(NoMemory)
+        let alloc = self.alloc;
+        if !self.is_running(admin) {
+            let why = ClusterRefusal::NodeStopped(admin);
+            return Ok(Prepared::refusal(alloc, why));
+        }
+        let second = at.get() / SECOND;
+        let (present, past) = self.slots_at(admin, second);
+        let last = self.records.last_ids();
+        let mut turned = Turned {
+            openings: Openings::new(alloc, last.log, self.queued_at(admin)),
+            fired: Vec::new(alloc),
+        };
+        let fits = fire_slots(alloc, &self.records, at, present, past, &mut turned)?;
+        if !fits {
+            return Ok(Prepared::refusal(alloc, ClusterRefusal::IdsSpent));
+        }
+        let Turned { openings, fired } = turned;
+        let Openings {
+            puts,
+            entering,
+            last: log,
+            ..
+        } = openings;
+        Ok(Prepared {
+            reply: ClusterReply::Fired(Seq::of(fired)),
+            changes: Seq::of(opened_changes(alloc, last, log, puts)?),
+            node: NodeChange::Turns(admin, second, Seq::of(entering)),
+        })
     }
 }

@@ -113,14 +113,14 @@ impl Pools {
     pub fn front(&self, pool: PoolKind) -> Option<LogId>
         ensures { result ≡ slice_get (queue_of self.now.kept pool) 0 }
     {
-        self.queue(pool).front().copied()
+        self.waiting(pool).front().copied()
     }
 
     /// How many logs wait in a pool.
     pub fn length(&self, pool: PoolKind) -> usize
         ensures { result ≡ length (queue_of self.now.kept pool) }
     {
-        self.queue(pool).len()
+        self.waiting(pool).len()
     }
 
     /// Whether the slow count of a job is above `SLOW_ABOVE`.
@@ -131,7 +131,8 @@ impl Pools {
         self.late.count(job) > SLOW_ABOVE
     }
 
-    fn queue(&self, pool: PoolKind) -> &VecDeque<LogId>
+    /// The logs that wait in a pool, the next one first.
+    pub fn waiting(&self, pool: PoolKind) -> &VecDeque<LogId>
         ensures { result.now.items ≡ queue_of self.now.kept pool }
     {
         match pool {

@@ -350,7 +350,10 @@ fn prepared_events_wait_for_their_commit(rt: HostRuntime) -> Result<(), Fail> {
     let mut cluster = looked(&rt, rt.alloc(), &[])?;
     let line = event(&rt, rt.alloc(), &Line::Fire(0, 112_000, 1, None))?;
     let dropped = cluster.prepare(&line)?;
-    assert_eq!(rt; told(rt.alloc(), &dropped.reply)?.as_str(), "opened 1 1:fast");
+    assert_eq!(rt;
+        told(rt.alloc(), &dropped.reply)?.as_str(),
+        "opened 1 1:fast"
+    );
     assert_eq!(rt; dropped.changes().len(), 2);
     drop(dropped);
     assert_eq!(rt; cluster.counts().logs, 0);

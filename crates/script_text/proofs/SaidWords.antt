@@ -87,28 +87,38 @@ only_end {S = S} {x = x} {front = front} s = record { holds = λ e text h. subst
 
 pub only_number : {E : Type 0} {S : E → List ℕ → Type 0} (least greatest : ℕ) (end : End) {ok : is_number_form (number_form least greatest end) ≡ true} {next : ℕ → Grammar E} {front : List ℕ → List ℕ} → ((n : ℕ) → SaysOnly S (next n) (λ rest. front ((decimal n ++ end_byte end ∷ []) ++ rest)))
     → SaysOnly S (Number (number_form least greatest end) ok next) front
-only_number {S = S} least greatest end {front = front} on = record { holds = λ e text h.
-    subst (λ (t : List ℕ). S e (front t)) (sym (h.5 ∙ ap (λ (x : List ℕ). x ++ h.2) (h.3.2 ∙ number_whole least greatest end h.0))) ((on h.0).holds e h.2 h.4) }
+only_number {S = S} least greatest end {front = front} on = record {
+  holds = λ e text h.
+      subst (λ (t : List ℕ). S e (front t)) (sym (h.5 ∙ ap (λ (x : List ℕ). x ++ h.2) (h.3.2 ∙ number_whole least greatest end h.0))) ((on h.0).holds e h.2 h.4);
+}
 
 pub only_text : {E : Type 0} {S : E → List ℕ → Type 0} (least greatest : ℕ) {ok : is_text_form (text_form least greatest Space) ≡ true} {next : List ℕ → Grammar E} {front : List ℕ → List ℕ} → ((t : List ℕ) → SaysOnly S (next t) (λ rest. front ((quoted t ++ 32 ∷ []) ++ rest)))
     → SaysOnly S (Text (text_form least greatest Space) ok next) front
-only_text {S = S} least greatest {front = front} on = record { holds = λ e text h.
-    subst (λ (t : List ℕ). S e (front t)) (sym (h.5 ∙ ap (λ (x : List ℕ). x ++ h.2) (h.3.3 ∙ text_whole (text_form least greatest Space) h.0))) ((on h.0).holds e h.2 h.4) }
+only_text {S = S} least greatest {front = front} on = record {
+  holds = λ e text h.
+      subst (λ (t : List ℕ). S e (front t)) (sym (h.5 ∙ ap (λ (x : List ℕ). x ++ h.2) (h.3.3 ∙ text_whole (text_form least greatest Space) h.0))) ((on h.0).holds e h.2 h.4);
+}
 
 pub only_optional : {E : Type 0} {S : E → List ℕ → Type 0} (least greatest : ℕ) {ok : is_text_form (text_form least greatest Line) ≡ true} {next : Option (List ℕ) → Grammar E} {front : List ℕ → List ℕ} → ((o : Option (List ℕ)) → SaysOnly S (next o) (λ rest. front ((optional_text o ++ 10 ∷ []) ++ rest)))
     → SaysOnly S (Optional (text_form least greatest Line) ok next) front
-only_optional {S = S} least greatest {front = front} on = record { holds = λ e text h.
-    subst (λ (t : List ℕ). S e (front t)) (sym (h.5 ∙ ap (λ (x : List ℕ). x ++ h.2) (optional_found (text_form least greatest Line) h.0 h.1 h.3))) ((on h.0).holds e h.2 h.4) }
+only_optional {S = S} least greatest {front = front} on = record {
+  holds = λ e text h.
+      subst (λ (t : List ℕ). S e (front t)) (sym (h.5 ∙ ap (λ (x : List ℕ). x ++ h.2) (optional_found (text_form least greatest Line) h.0 h.1 h.3))) ((on h.0).holds e h.2 h.4);
+}
 
 pub only_texts : {E : Type 0} {S : E → List ℕ → Type 0} (most : ℕ) (form : TextForm) {counts : is_number_form (count_form most form.behind) ≡ true} {ok : is_text_form form ≡ true} {next : List (List ℕ) → Grammar E} {front : List ℕ → List ℕ} → ((ts : List (List ℕ)) → SaysOnly S (next ts) (λ rest. front ((counted_texts ts ++ end_byte form.behind ∷ []) ++ rest)))
     → SaysOnly S (TextList most form counts ok next) front
-only_texts {S = S} most form {front = front} on = record { holds = λ e text h.
-    subst (λ (t : List ℕ). S e (front t)) (sym (h.5 ∙ ap (λ (x : List ℕ). x ++ h.2) (text_list_found most form h.0 h.1 h.3))) ((on h.0).holds e h.2 h.4) }
+only_texts {S = S} most form {front = front} on = record {
+  holds = λ e text h.
+      subst (λ (t : List ℕ). S e (front t)) (sym (h.5 ∙ ap (λ (x : List ℕ). x ++ h.2) (text_list_found most form h.0 h.1 h.3))) ((on h.0).holds e h.2 h.4);
+}
 
 pub only_numbers : {E : Type 0} {S : E → List ℕ → Type 0} (most : ℕ) (form : NumberForm) {counts : is_number_form (count_form most form.behind) ≡ true} {ok : is_number_form form ≡ true} {next : List ℕ → Grammar E} {front : List ℕ → List ℕ} → ((ns : List ℕ) → SaysOnly S (next ns) (λ rest. front ((counted_numbers ns ++ end_byte form.behind ∷ []) ++ rest)))
     → SaysOnly S (NumberList most form counts ok next) front
-only_numbers {S = S} most form {front = front} on = record { holds = λ e text h.
-    subst (λ (t : List ℕ). S e (front t)) (sym (h.5 ∙ ap (λ (x : List ℕ). x ++ h.2) (number_list_found most form h.0 h.1 h.3))) ((on h.0).holds e h.2 h.4) }
+only_numbers {S = S} most form {front = front} on = record {
+  holds = λ e text h.
+      subst (λ (t : List ℕ). S e (front t)) (sym (h.5 ∙ ap (λ (x : List ℕ). x ++ h.2) (number_list_found most form h.0 h.1 h.3))) ((on h.0).holds e h.2 h.4);
+}
 
 -- something of each word, by its place
 abbrev pub Each : (ℕ → List ℕ → Type 0) → List (List ℕ) → Type 0
@@ -122,14 +132,18 @@ at_place P (word ∷ words) all (suc i) text h = at_place (λ j. P (suc j)) word
 
 pub only_word : {E : Type 0} {S : E → List ℕ → Type 0} (word : List ℕ) (words : List (List ℕ)) {ok : are_apart (word ∷ words) ≡ true} {next : ℕ → Grammar E} {front : List ℕ → List ℕ} → Each (λ i w. SaysOnly S (next i) (λ rest. front (w ++ rest))) (word ∷ words)
     → SaysOnly S (Choice word words ok next) front
-only_word {S = S} word words {next = next} {front = front} all = record { holds = λ e text h.
-    subst (λ (t : List ℕ). S e (front t)) (sym h.5) ((at_place (λ i w. SaysOnly S (next i) (λ rest. front (w ++ rest))) (word ∷ words) all h.0 h.1 h.3).holds e h.2 h.4) }
+only_word {S = S} word words {next = next} {front = front} all = record {
+  holds = λ e text h.
+      subst (λ (t : List ℕ). S e (front t)) (sym h.5) ((at_place (λ i w. SaysOnly S (next i) (λ rest. front (w ++ rest))) (word ∷ words) all h.0 h.1 h.3).holds e h.2 h.4);
+}
 
 pub only_part : {D E : Type 0} {P : D → List ℕ → Type 0} {S : E → List ℕ → Type 0} (g : Grammar D) (next : D → Grammar E) {front : List ℕ → List ℕ} → SaysOnly P g (λ text. text) → ((d : D) (first : List ℕ) → P d first → SaysOnly S (next d) (λ rest. front (first ++ rest)))
     → SaysOnly S (and_then g next) front
-only_part {S = S} g next {front = front} part on = record { holds = λ e text h.
-    let f = part_found g next e text h in
-    subst (λ (t : List ℕ). S e (front t)) (sym f.5) ((on f.0 f.1 (part.holds f.0 f.1 f.3)).holds e f.2 f.4) }
+only_part {S = S} g next {front = front} part on = record {
+  holds = λ e text h.
+      let f = part_found g next e text h in
+      subst (λ (t : List ℕ). S e (front t)) (sym f.5) ((on f.0 f.1 (part.holds f.0 f.1 f.3)).holds e f.2 f.4);
+}
 
 -- ---- which word stands for a value
 

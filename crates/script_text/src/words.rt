@@ -8,8 +8,8 @@ ghost use Rattle.script_text.specs.Words.{group_kind_at, schedule_kind_at, misfi
 ghost use Rattle.script_text.specs.Lines.{other_words};
 
 use job_values::{
-    AdminNo, Block, GroupId, GroupKind, JobId, LogId, Misfire, Moment, Retries, Route, ScheduleKind,
-    Timeout,
+    AdminNo, Block, GroupId, GroupKind, JobId, LogId, Misfire, Moment, Retries, Route,
+    ScheduleKind, Timeout,
 };
 use line_grammar::{End, NumberForm, ReadError, Reader};
 

@@ -103,12 +103,7 @@ fn put_admin(out: &mut Vec<u8>, word: &str, admin: AdminNo) -> Result<(), NoMemo
 }
 
 /// A first word, an admin and a moment.
-fn put_admin_at(
-    out: &mut Vec<u8>,
-    word: &str,
-    admin: AdminNo,
-    at: Moment,
-) -> Result<(), NoMemory>
+fn put_admin_at(out: &mut Vec<u8>, word: &str, admin: AdminNo, at: Moment) -> Result<(), NoMemory>
     ensures written { OnOk result (out.new.items ≡ out.old.items ++ (word.now ++ decimal admin ++ spaced_number at)) }
     ensures within { OnOk result (IsAdmin admin × IsMoment at) }
 {

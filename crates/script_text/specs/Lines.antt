@@ -3,7 +3,6 @@ use Rattle.std.specs.Prelude.{ℕ, refl, ◌==◌, if◌then◌else◌, List, []
 use Rattle.job_values.specs.declared.cluster.ClusterEvent.{ClusterEvent}
 use Rattle.job_values.specs.declared.cluster.ClusterEvent.TheVariants.{NodeStart, NodeStop, NodeAsk, AddGroup, SetGroup, AddJob, UpdateJob, StartJob, StopJob, RemoveJob, TriggerJob, ScanBegin, ScanStep, Turn, ReadLog, Reopen}
 use Rattle.job_values.specs.declared.job.JobSpec.{JobSpec}
-use Rattle.job_values.specs.declared.words.GroupKind.{GroupKind}
 use Rattle.line_grammar.specs.declared.ends.End.TheVariants.{Space, Line}
 use Rattle.line_grammar.specs.Texts.{text_form}
 use Rattle.line_grammar.specs.Dashes.{number_form}

@@ -1,5 +1,5 @@
 -- The one spelling of each event.
-use Rattle.std.specs.Prelude.{◌≡◌, ℕ, ◌≤◌, List, [], ◌∷◌, ◌++◌, length, Option, IfSome, codes, decimal}
+use Rattle.std.specs.Prelude.{ℕ, ◌≤◌, List, [], ◌∷◌, ◌++◌, length, Option, IfSome, codes, decimal}
 use Rattle.std.specs.List.{AllByRecursion}
 use Rattle.job_values.specs.declared.words.Route.{Route}
 use Rattle.job_values.specs.declared.words.Route.TheVariants as routes

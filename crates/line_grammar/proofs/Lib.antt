@@ -11,3 +11,4 @@ pub mod Words
 pub mod Loop
 pub mod GrammarLaws
 pub mod Spellings
+pub mod PartLaws

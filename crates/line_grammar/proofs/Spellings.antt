@@ -1,6 +1,6 @@
 -- Each word has one spelling, which is what its writer writes.
-use Rattle.std.proofs.Common.{◌≡◌, true, ℕ, zero, suc, ℤ, ◌≤◌, List, [], ◌∷◌, ◌++◌, length, Option, Ok, refl, sym, ap, subst, ◌∙◌, append_assoc, inl, inr, arith}
-use Rattle.std.specs.Prelude.{decimal}
+use Rattle.std.proofs.Common.{◌≡◌, true, ℕ, zero, suc, ℤ, ◌≤◌, List, [], ◌∷◌, ◌++◌, length, Option, Some, None, Ok, refl, sym, ap, subst, ◌∙◌, append_assoc, inl, inr, arith}
+use Rattle.std.specs.Prelude.{decimal, IfSome}
 use Rattle.std.specs.List.{flat_map, AllByRecursion}
 use Rattle.std.proofs.lemmas.List.{append-nil}
 use Rattle.line_grammar.specs.declared.ends.End.{End}
@@ -10,9 +10,9 @@ use Rattle.line_grammar.specs.Ends.{end_byte}
 use Rattle.line_grammar.specs.Numbers.{end_of, number_text, IsNumber, is_number_form}
 use Rattle.line_grammar.specs.Texts.{spelled, text_text, IsText, is_text_form}
 use Rattle.line_grammar.specs.Choices.{IsWord}
-use Rattle.line_grammar.specs.Dashes.{some_text, no_text, IsOptional, plus_form, minus_form, plus, minus, IsCode}
+use Rattle.line_grammar.specs.Dashes.{some_text, no_text, IsOptional, number_form, plus_form, minus_form, plus, minus, IsCode}
 use Rattle.line_grammar.specs.Lists.{end_before, text_before, number_before, count_form, IsTexts, IsNumbers, IsTextList, IsNumberList, text_list_at, number_list_at}
-use Rattle.line_grammar.specs.Writing.{spaced_text, spaced_number, counted_texts, counted_numbers}
+use Rattle.line_grammar.specs.Writing.{quoted, optional_text, spaced_text, spaced_number, counted_texts, counted_numbers}
 use Rattle.line_grammar.specs.Laws.{IsOneWay, WordsHaveOneSpelling, IsNumberOf, IsTextOf, WordsAreReadAgain}
 use Rattle.line_grammar.proofs.Decimals.{number_reads}
 use Rattle.line_grammar.proofs.Quoted.{text_reads}
@@ -65,6 +65,26 @@ code_one end z text other (inl h) (inr k) = absurd (plus≢minus h.0 k.0 z k.2.0
 code_one end z text other (inr h) (inl k) = absurd (plus≢minus k.0 h.0 z h.2.0 k.2 h.4)
 code_one end z text other (inr h) (inr k) =
     h.3 ∙ ap (λ (t : List ℕ). 45 ∷ t) (h.2.2 ∙ ap (number_text (minus_form end)) (minus_is h.0 k.0 h.2.0 k.2.0 (sym h.4 ∙ k.4)) ∙ sym k.2.2) ∙ sym k.3
+
+-- ---- words as their writers write them
+
+pub number_whole : (least greatest : ℕ) (end : End) (n : ℕ) → number_text (number_form least greatest end) n ≡ decimal n ++ end_byte end ∷ []
+number_whole least greatest end zero = refl
+number_whole least greatest end (suc n) = refl
+
+pub text_whole : (form : TextForm) (t : List ℕ) → text_text form t ≡ quoted t ++ end_byte form.behind ∷ []
+text_whole form t = ap (λ (x : List ℕ). 34 ∷ x) (sym (append_assoc (spelled t) (34 ∷ []) (end_byte form.behind ∷ [])))
+
+-- a text or none is said as it is written
+pub optional_said : (form : TextForm) (o : Option (List ℕ)) → IfSome o (IsTextOf form) → IsOptional form o (optional_text o ++ end_byte form.behind ∷ [])
+optional_said form None h = inr (0, end_byte form.behind ∷ [], refl, refl, refl)
+optional_said form (Some t) h = inl (t, (h.utf8, h.least, h.greatest, sym (text_whole form t)), refl)
+
+-- and in no other way
+pub optional_found : (form : TextForm) (o : Option (List ℕ)) (text : List ℕ) → IsOptional form o text → text ≡ optional_text o ++ end_byte form.behind ∷ []
+optional_found form None text h = optional_one form None text _ h (optional_said form None tt)
+optional_found form (Some t) text (inl h) = h.1.3 ∙ ap (text_text form) (some_is h.0 t (sym h.2)) ∙ text_whole form t
+optional_found form (Some t) text (inr h) = absurd (not_none t h.0 (Some t) refl h.4)
 
 -- ---- lists of texts
 

@@ -1,5 +1,5 @@
 -- What loops keep.
-use Rattle.std.proofs.Common.{◌≡◌, ℕ, suc, ◌+◌, ◌<◌, min, List, ◌∷◌, length, get_or, take, drop, map, Bor, Result, sym, ap, subst, ◌∙◌, arith}
+use Rattle.std.proofs.Common.{◌≡◌, ℕ, suc, ◌+◌, ◌<◌, min, List, ◌∷◌, length, get_or, drop, map, Bor, Result, sym, ap, subst, ◌∙◌, arith}
 use Rattle.std.proofs.lemmas.List.{drop_more, get_or-map, length-map}
 use Rattle.line_grammar.specs.Choices.{word_at, words_from, word_or}
 

@@ -8,5 +8,6 @@ pub mod Texts
 pub mod Dashes
 pub mod Lists
 pub mod Grammar
+pub mod Parts
 pub mod Writing
 pub mod Laws

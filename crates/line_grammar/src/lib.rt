@@ -18,7 +18,8 @@ pub use numbers::{NumberForm, NumberMove, NumberStage};
 pub use reading::Reader;
 pub use texts::{Tail, TextForm, TextMove, TextStage};
 pub use writing::{
-    write_bounded, write_byte, write_number, write_signed, write_text, write_texts, write_word,
+    write_bounded, write_byte, write_number, write_optional, write_signed, write_text, write_texts,
+    write_word,
 };
 
 #[cfg(test)]

@@ -147,24 +147,24 @@ impl Reader<'_> {
         }
     }
 
-    /// A text, or `-` for none, and the byte behind it.
+    /// A text within the bounds of its type, or `-` for none, and the byte behind it.
     #[tactic(auto, unfolding(crate::specs::Dashes::optional_at))]
-    pub fn optional_text(
+    pub fn optional_text<const LEAST: usize, const MOST: usize>(
         &mut self,
         alloc: Global,
-        form: TextForm,
-    ) -> Result<Option<Text>, ReadError>
-        requires { is_text_form form ≡ true }
-        ensures { Takes (λ t. t) result self.new.rest.now (optional_at form self.old.rest.now) }
+        behind: End,
+    ) -> Result<Option<BoundedText<LEAST, MOST>>, ReadError>
+        requires { is_text_form (text_form LEAST MOST behind) ≡ true }
+        ensures { Takes (λ t. t) result self.new.rest.now (optional_at (text_form LEAST MOST behind) self.old.rest.now) }
     {
         match self.rest {
             [b'-', rest @ ..] => {
                 self.rest = rest;
-                self.end(form.behind)?;
+                self.end(behind)?;
                 Ok(None)
             }
             _ => {
-                let text = self.text(alloc, form)?;
+                let text = self.bounded(alloc, behind)?;
                 Ok(Some(text))
             }
         }

@@ -72,19 +72,16 @@ fn words_and_dashes(rt: HostRuntime) -> Result<(), Fail> {
     };
     assert_eq!(rt; reader.choice(&["start ", "startjob "]), Ok(1));
     assert_eq!(rt; reader.code(End::Space), Ok(-7));
-    let form = TextForm {
-        least: 0,
-        greatest: 3,
-        behind: End::Space,
-    };
-    let none = reader
-        .optional_text(rt.alloc(), form)
+    let none: Option<BoundedText<0, 3>> = reader
+        .optional_text(rt.alloc(), End::Space)
         .map_err(|_| "refused")?;
-    assert_eq!(rt; none.is_none(), true);
-    let empty = reader
-        .optional_text(rt.alloc(), form)
+    let empty: Option<BoundedText<0, 3>> = reader
+        .optional_text(rt.alloc(), End::Space)
         .map_err(|_| "refused")?;
-    assert_eq!(rt; empty.is_some(), true);
+    let mut out = Vec::new(rt.alloc());
+    write_optional(&mut out, &none).map_err(|_| "memory")?;
+    write_optional(&mut out, &empty).map_err(|_| "memory")?;
+    assert_eq!(rt; out.as_slice(), b"-\"\"".as_slice());
     assert_eq!(rt; reader.code(End::Space), Err(ReadError::Bad(1)));
     let mut bad = Reader { rest: b"stop " };
     assert_eq!(rt;

@@ -1,11 +1,11 @@
 //! Words written behind the bytes that are there. After an error nothing is said of what stands
 //! behind them.
-ghost use Rattle.std.specs.Prelude.{◌≡◌, ◌<◌, [], ◌∷◌, ◌++◌, OnOk, decimal};
+ghost use Rattle.std.specs.Prelude.{◌≡◌, ◌<◌, [], ◌∷◌, ◌++◌, OnOk, IfSome, decimal};
 ghost use Rattle.std.specs.Fmt.{signed_decimal};
 ghost use Rattle.line_grammar.specs.Texts.{escape, text_form};
 ghost use Rattle.line_grammar.specs.Laws.{IsTextOf};
 ghost use Rattle.std.specs.List.{AllByRecursion};
-ghost use Rattle.line_grammar.specs.Writing.{quoted, counted_texts};
+ghost use Rattle.line_grammar.specs.Writing.{quoted, optional_text, counted_texts};
 
 use crate::ends::End;
 use itoa::Buffer;
@@ -110,4 +110,18 @@ pub fn write_bounded<const LEAST: usize, const MOST: usize>(
     ensures within { IsTextOf (text_form LEAST MOST End.Line) text.now }
 {
     write_text(out, text.get().as_str())
+}
+
+/// Writes a text between quotes, or `-` for none.
+pub fn write_optional<const LEAST: usize, const MOST: usize>(
+    out: &mut Vec<u8>,
+    text: &Option<BoundedText<LEAST, MOST>>,
+) -> Result<(), NoMemory>
+    ensures written { OnOk result (out.new.items ≡ out.old.items ++ optional_text text.now) }
+    ensures within { IfSome text.now (IsTextOf (text_form LEAST MOST End.Line)) }
+{
+    match text {
+        None => write_byte(out, b'-'),
+        Some(text) => write_bounded(out, text),
+    }
 }

@@ -1,2 +1,5 @@
 pub mod LineLaws
+pub mod SaidWords
+pub mod SpecLaws
+pub mod SpecReading
 pub mod SpellingLaws

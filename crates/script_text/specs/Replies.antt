@@ -1,15 +1,17 @@
 -- The texts of replies and of the report, each ended by LF.
-use Rattle.std.specs.Prelude.{ℕ, List, [], ◌∷◌, ◌++◌, length, codes, Option, Some, None}
+use Rattle.std.specs.Prelude.{ℕ, Bool, true, false, List, [], ◌∷◌, ◌++◌, length, codes, Option, Some, None}
 use Rattle.std.specs.List.{flat_map}
+use Rattle.std.specs.Fmt.{signed_decimal}
 use Rattle.job_values.specs.declared.cluster.ClusterReply.{ClusterReply}
-use Rattle.job_values.specs.declared.cluster.ClusterReply.TheVariants.{Done, Group, Job, Running, Begun, Skip, Look, Fired, Refused}
+use Rattle.job_values.specs.declared.cluster.ClusterReply.TheVariants.{Done, Group, Job, Running, Updated, Halted, Begun, Skip, Look, Fired, Opened as OpenedLogs, Shown, Stopped, Reopened, Refused}
 use Rattle.job_values.specs.declared.cluster.ClusterRefusal.{ClusterRefusal}
-use Rattle.job_values.specs.declared.cluster.ClusterRefusal.TheVariants.{NodeRunning, NodeStopped, Busy, NotScanning, NoGroup, NoJob, BadSchedule, NoNext, TooMany, IdsSpent}
+use Rattle.job_values.specs.declared.cluster.ClusterRefusal.TheVariants.{NodeRunning, NodeStopped, Busy, NotScanning, NoGroup, NoJob, NoLog, BadSchedule, NoNext, TooMany, IdsSpent}
 use Rattle.job_values.specs.declared.job.Opened.{Opened}
 use Rattle.job_values.specs.declared.job.FiredTicket.{FiredTicket}
+use Rattle.job_values.specs.declared.job.ShownLog.{ShownLog}
 use Rattle.job_values.specs.declared.job.Report.{Report}
-use Rattle.line_grammar.specs.Writing.{spaced_number}
-use Rattle.job_values.specs.Words.{case_text, pool_answer_text}
+use Rattle.line_grammar.specs.Writing.{spaced_number, spaced_text, optional_text}
+use Rattle.job_values.specs.Words.{case_text, pool_answer_text, trigger_kind_text}
 
 -- a moment or `-`, behind a space
 abbrev pub optional_word : Option ℕ → List ℕ
@@ -28,6 +30,27 @@ opened_words os = spaced_number (length os) ++ flat_map opened_word os
 abbrev pub ticket_words : FiredTicket → List ℕ
 ticket_words t = spaced_number t.job ++ spaced_number t.edition ++ spaced_number t.due ++ opened_words t.opened
 
+-- whether a log was looked at as a failed one
+abbrev pub mark_text : Bool → List ℕ
+mark_text true = codes "marked"
+mark_text false = codes "unmarked"
+
+-- which log is shown: the log, its job and group, and the address that it was sent to or `-`
+abbrev pub shown_log : ShownLog → List ℕ
+shown_log l = spaced_number l.log ++ spaced_number l.job ++ spaced_number l.group ++ 32 ∷ optional_text l.address
+
+-- what it runs: handler, parameter, index of its shard, number of shards
+abbrev pub shown_work : ShownLog → List ℕ
+shown_work l = spaced_text l.handler ++ spaced_text l.param ++ spaced_number l.index ++ spaced_number l.total
+
+-- how it was opened and sent: retries, why it was opened, when, and the trigger code
+abbrev pub shown_trigger : ShownLog → List ℕ
+shown_trigger l = spaced_number l.retries ++ 32 ∷ trigger_kind_text l.kind ++ spaced_number l.time ++ 32 ∷ signed_decimal l.trigger_code
+
+-- its result: when it came or `-`, code, text, and the mark
+abbrev pub shown_result : ShownLog → List ℕ
+shown_result l = optional_word l.result_time ++ 32 ∷ signed_decimal l.result_code ++ spaced_text l.result_text ++ 32 ∷ mark_text l.marked
+
 -- a refusal's name and its fields
 abbrev pub refusal_text : ClusterRefusal → List ℕ
 refusal_text (NodeRunning admin) = codes "NodeRunning" ++ spaced_number admin
@@ -36,6 +59,7 @@ refusal_text (Busy owner) = codes "Busy" ++ spaced_number owner
 refusal_text NotScanning = codes "NotScanning"
 refusal_text NoGroup = codes "NoGroup"
 refusal_text NoJob = codes "NoJob"
+refusal_text NoLog = codes "NoLog"
 refusal_text (BadSchedule fault) = codes "BadSchedule" ++ spaced_number fault.field ++ spaced_number fault.place
 refusal_text NoNext = codes "NoNext"
 refusal_text (TooMany limit) = codes "TooMany" ++ spaced_number limit
@@ -47,11 +71,17 @@ reply_words Done = codes "ok"
 reply_words (Group id) = codes "group" ++ spaced_number id
 reply_words (Job id) = codes "job" ++ spaced_number id
 reply_words (Running edition next) = codes "running" ++ spaced_number edition ++ spaced_number next
+reply_words (Updated edition next) = codes "updated" ++ spaced_number edition ++ optional_word next
+reply_words (Halted edition) = codes "halted" ++ spaced_number edition
 reply_words (Begun count) = codes "begun" ++ spaced_number count
 reply_words (Skip job) = codes "skip" ++ spaced_number job
 reply_words (Look job case due next put opened) =
     codes "look" ++ spaced_number job ++ 32 ∷ case_text case ++ spaced_number due ++ optional_word next ++ optional_word put ++ opened_words opened
 reply_words (Fired tickets) = codes "fired" ++ spaced_number (length tickets) ++ flat_map ticket_words tickets
+reply_words (OpenedLogs opened) = codes "opened" ++ opened_words opened
+reply_words (Shown l) = codes "log" ++ (shown_log l ++ shown_work l ++ shown_trigger l ++ shown_result l)
+reply_words (Stopped lost ended) = codes "stopped" ++ spaced_number lost ++ spaced_number ended
+reply_words (Reopened lost ended) = codes "reopened" ++ spaced_number lost ++ spaced_number ended
 reply_words (Refused refusal) = codes "no " ++ refusal_text refusal
 
 -- a reply as a line

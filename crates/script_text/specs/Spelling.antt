@@ -1,5 +1,5 @@
 -- The one spelling of each event.
-use Rattle.std.specs.Prelude.{◌≡◌, ℕ, ◌≤◌, List, [], ◌∷◌, ◌++◌, length, codes, decimal}
+use Rattle.std.specs.Prelude.{ℕ, ◌≤◌, List, [], ◌∷◌, ◌++◌, length, Option, IfSome, codes, decimal}
 use Rattle.std.specs.List.{AllByRecursion}
 use Rattle.job_values.specs.declared.words.Route.{Route}
 use Rattle.job_values.specs.declared.words.Route.TheVariants as routes
@@ -8,10 +8,10 @@ use Rattle.line_grammar.specs.Texts.{text_form}
 use Rattle.line_grammar.specs.Dashes.{number_form}
 use Rattle.line_grammar.specs.Laws.{IsTextOf, IsNumberOf}
 use Rattle.job_values.specs.declared.cluster.ClusterEvent.{ClusterEvent}
-use Rattle.job_values.specs.declared.cluster.ClusterEvent.TheVariants.{NodeStart, AddGroup, AddJob, StartJob, ScanBegin, ScanStep, Turn}
+use Rattle.job_values.specs.declared.cluster.ClusterEvent.TheVariants.{NodeStart, NodeStop, NodeAsk, AddGroup, SetGroup, AddJob, UpdateJob, StartJob, StopJob, RemoveJob, TriggerJob, ScanBegin, ScanStep, Turn, ReadLog, Reopen}
 use Rattle.job_values.specs.declared.job.JobSpec.{JobSpec}
 use Rattle.job_values.specs.Words.{schedule_kind_text, misfire_text, route_text, block_text, group_kind_text}
-use Rattle.line_grammar.specs.Writing.{quoted, spaced_text, spaced_number, counted_texts, counted_numbers}
+use Rattle.line_grammar.specs.Writing.{quoted, optional_text, spaced_text, spaced_number, counted_texts, counted_numbers}
 
 -- when a job fires and where it runs: G KIND TEXT MISFIRE ROUTE BLOCK
 abbrev pub trigger_text : JobSpec → List ℕ
@@ -28,12 +28,21 @@ spec_text s = trigger_text s ++ work_text s
 -- an event's line without its LF
 abbrev pub event_words : ClusterEvent → List ℕ
 event_words (NodeStart a) = codes "start " ++ decimal a
+event_words (NodeStop a) = codes "stop " ++ decimal a
+event_words (NodeAsk a) = codes "ask " ++ decimal a
 event_words (AddGroup app kind addresses) = codes "addgroup " ++ quoted app ++ 32 ∷ group_kind_text kind ++ 32 ∷ counted_texts addresses
+event_words (SetGroup group kind addresses) = codes "setgroup " ++ decimal group ++ 32 ∷ group_kind_text kind ++ 32 ∷ counted_texts addresses
 event_words (AddJob s) = codes "addjob " ++ spec_text s
+event_words (UpdateJob at job s) = codes "setjob " ++ decimal at ++ spaced_number job ++ 32 ∷ spec_text s
 event_words (StartJob at job) = codes "startjob " ++ decimal at ++ spaced_number job
+event_words (StopJob job) = codes "stopjob " ++ decimal job
+event_words (RemoveJob job) = codes "dropjob " ++ decimal job
+event_words (TriggerJob a at job own) = codes "fire " ++ decimal a ++ spaced_number at ++ spaced_number job ++ 32 ∷ optional_text own
 event_words (ScanBegin a at) = codes "scan " ++ decimal a ++ spaced_number at
 event_words (ScanStep a) = codes "step " ++ decimal a
 event_words (Turn a at) = codes "turn " ++ decimal a ++ spaced_number at
+event_words (ReadLog l) = codes "showlog " ++ decimal l
+event_words Reopen = codes "reopen"
 
 -- an event as its line
 abbrev pub spelling : ClusterEvent → List ℕ
@@ -52,22 +61,27 @@ IsBuiltRoute routes.Failover = Unit {0}
 IsBuiltRoute routes.Busyover = Unit {0}
 IsBuiltRoute routes.ShardingBroadcast = ⊥
 
--- what is built by now of what the types allow: one admin, no broadcast
+-- what is built by now of what the types allow: no broadcast
 abbrev pub IsBuilt : ClusterEvent → Type 0
-IsBuilt (NodeStart a) = a ≡ 0
-IsBuilt (AddGroup app kind addresses) = Unit {0}
 IsBuilt (AddJob s) = IsBuiltRoute s.route
-IsBuilt (StartJob at job) = Unit {0}
-IsBuilt (ScanBegin a at) = a ≡ 0
-IsBuilt (ScanStep a) = a ≡ 0
-IsBuilt (Turn a at) = a ≡ 0
+IsBuilt (UpdateJob at job s) = IsBuiltRoute s.route
+IsBuilt event = Unit {0}
 
--- a moment, and an id
+-- an admin's number, a moment, a group's or a job's id, a log's id, a parameter or none
+abbrev pub IsAdmin : ℕ → Type 0
+IsAdmin a = a ≤ 15
+
 abbrev pub IsMoment : ℕ → Type 0
 IsMoment at = at ≤ 4102444799999
 
 abbrev pub IsId : ℕ → Type 0
 IsId id = IsNumberOf (number_form 1 2147483647 Line) id
+
+abbrev pub IsLog : ℕ → Type 0
+IsLog l = IsNumberOf (number_form 1 9223372036854775807 Line) l
+
+abbrev pub IsParam : Option (List ℕ) → Type 0
+IsParam own = IfSome own (IsTextOf (text_form 0 512 Line))
 
 -- what a job runs is within its bounds
 pub record WorkFits (s : JobSpec) : Type 0 where
@@ -84,17 +98,26 @@ pub record SpecFits (s : JobSpec) : Type 0 where
   pub schedule : IsTextOf (text_form 0 1024 Line) s.schedule
   pub work : WorkFits s
 
-pub record GroupFits (app : List ℕ) (addresses : List (List ℕ)) : Type 0 where
-  pub name : IsTextOf (text_form 1 64 Line) app
+-- the addresses of a group are within their bounds
+pub record AddressesFit (addresses : List (List ℕ)) : Type 0 where
   pub count : length addresses ≤ 256
   pub texts : AllByRecursion (IsTextOf (text_form 1 255 Line)) addresses
 
 -- the values of an event are within their bounds, as its type has them
 abbrev pub IsWithin : ClusterEvent → Type 0
-IsWithin (NodeStart a) = Unit {0}
-IsWithin (AddGroup app kind addresses) = GroupFits app addresses
+IsWithin (NodeStart a) = IsAdmin a
+IsWithin (NodeStop a) = IsAdmin a
+IsWithin (NodeAsk a) = IsAdmin a
+IsWithin (AddGroup app kind addresses) = IsTextOf (text_form 1 64 Line) app × AddressesFit addresses
+IsWithin (SetGroup group kind addresses) = IsId group × AddressesFit addresses
 IsWithin (AddJob s) = SpecFits s
+IsWithin (UpdateJob at job s) = IsMoment at × IsId job × SpecFits s
 IsWithin (StartJob at job) = IsMoment at × IsId job
-IsWithin (ScanBegin a at) = IsMoment at
-IsWithin (ScanStep a) = Unit {0}
-IsWithin (Turn a at) = IsMoment at
+IsWithin (StopJob job) = IsId job
+IsWithin (RemoveJob job) = IsId job
+IsWithin (TriggerJob a at job own) = IsAdmin a × IsMoment at × IsId job × IsParam own
+IsWithin (ScanBegin a at) = IsAdmin a × IsMoment at
+IsWithin (ScanStep a) = IsAdmin a
+IsWithin (Turn a at) = IsAdmin a × IsMoment at
+IsWithin (ReadLog l) = IsLog l
+IsWithin Reopen = Unit {0}

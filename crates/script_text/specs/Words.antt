@@ -1,5 +1,5 @@
 -- The words of lines: which values they may have, and what follows.
-use Rattle.std.specs.Prelude.{refl, ℕ, ◌==◌, if◌then◌else◌, List, [], ◌∷◌, codes}
+use Rattle.std.specs.Prelude.{refl, ℕ, ◌==◌, if◌then◌else◌, List, [], ◌∷◌, Option, codes}
 use Rattle.job_values.specs.declared.words.GroupKind.{GroupKind}
 use Rattle.job_values.specs.declared.words.GroupKind.TheVariants.{Auto, Manual}
 use Rattle.job_values.specs.declared.words.ScheduleKind.{ScheduleKind}
@@ -11,13 +11,13 @@ use Rattle.job_values.specs.declared.words.Block.TheVariants.{SerialExecution, D
 use Rattle.job_values.specs.declared.words.Route.{Route}
 use Rattle.job_values.specs.declared.words.Route.TheVariants.{First, Last, Round, Random, ConsistentHash, LeastFrequentlyUsed, LeastRecentlyUsed, Failover, Busyover}
 use Rattle.line_grammar.specs.declared.ends.End.{End}
-use Rattle.line_grammar.specs.Ends.{end_byte}
 use Rattle.line_grammar.specs.Dashes.{number_form}
-use Rattle.line_grammar.specs.Grammar.{Grammar, Number, Choice}
+use Rattle.line_grammar.specs.Texts.{text_form}
+use Rattle.line_grammar.specs.Grammar.{Grammar, Number, Optional, Choice}
 
--- the number of an admin, which is 0
+-- the number of an admin
 abbrev pub admin : {E : Type 0} → End → (ℕ → Grammar E) → Grammar E
-admin end next = Choice (48 ∷ end_byte end ∷ []) [] refl (λ _. next 0)
+admin end next = Number (number_form 0 15 end) refl next
 
 -- a moment
 abbrev pub moment : {E : Type 0} → End → (ℕ → Grammar E) → Grammar E
@@ -26,6 +26,14 @@ moment end next = Number (number_form 0 4102444799999 end) refl next
 -- a group's or a job's id
 abbrev pub id : {E : Type 0} → End → (ℕ → Grammar E) → Grammar E
 id end next = Number (number_form 1 2147483647 end) refl next
+
+-- a log's id
+abbrev pub log : {E : Type 0} → End → (ℕ → Grammar E) → Grammar E
+log end next = Number (number_form 1 9223372036854775807 end) refl next
+
+-- the parameter of a firing by hand, or `-` for the job's own
+abbrev pub param : {E : Type 0} → End → (Option (List ℕ) → Grammar E) → Grammar E
+param end next = Optional (text_form 0 512 end) refl next
 
 abbrev pub group_kind_at : ℕ → GroupKind
 group_kind_at i = if i == 0 then Auto else Manual

@@ -3,8 +3,10 @@
 #![tactic(auto)]
 
 mod faults;
+mod groups;
 mod jobs;
 pub mod laws;
+mod nodes;
 mod reading;
 mod replies;
 mod words;

@@ -1,15 +1,16 @@
 //! The texts of replies and of the report.
 ghost use Rattle.std.specs.Prelude.{◌≡◌, ◌∷◌, ◌++◌, IfOk, OnOk};
-ghost use Rattle.script_text.specs.Replies.{optional_word, opened_word, opened_words, ticket_words, refusal_text, reply_words, reply_text, report_text};
+ghost use Rattle.script_text.specs.Replies.{optional_word, opened_word, opened_words, ticket_words, refusal_text, shown_log, shown_work, shown_trigger, shown_result, reply_words, reply_text, report_text};
 ghost use Rattle.std.specs.List.{flat_map};
 ghost use Rattle.line_grammar.specs.Writing.{spaced_number};
 ghost use Rattle.job_values.specs.Words.{case_text};
 
-use crate::writing::{put_number, put_word};
+use crate::writing::{put_number, put_text, put_word};
 use job_values::{
     Case, ClusterRefusal, ClusterReply, FiredTicket, JobId, Moment, NoMemory, Opened, Report, Seq,
+    ShownLog,
 };
-use line_grammar::{write_byte, write_word};
+use line_grammar::{write_byte, write_optional, write_signed, write_word};
 use std::alloc::Global;
 
 fn put_optional(out: &mut Vec<u8>, moment: Option<Moment>) -> Result<(), NoMemory>
@@ -76,6 +77,7 @@ fn put_refusal(out: &mut Vec<u8>, refusal: ClusterRefusal) -> Result<(), NoMemor
         ClusterRefusal::NotScanning => write_word(out, "NotScanning"),
         ClusterRefusal::NoGroup => write_word(out, "NoGroup"),
         ClusterRefusal::NoJob => write_word(out, "NoJob"),
+        ClusterRefusal::NoLog => write_word(out, "NoLog"),
         ClusterRefusal::BadSchedule(fault) => {
             write_word(out, "BadSchedule")?;
             put_number(out, u64::from(fault.field))?;
@@ -108,42 +110,108 @@ fn put_look(
     put_optional(out, put)
 }
 
+/// Which log is shown, and where it was sent.
+fn put_shown_log(out: &mut Vec<u8>, log: &ShownLog) -> Result<(), NoMemory>
+    ensures { OnOk result (out.new.items ≡ out.old.items ++ shown_log log.now) }
+{
+    put_number(out, log.log.get())?;
+    put_number(out, u64::from(log.job.get()))?;
+    put_number(out, u64::from(log.group.get()))?;
+    write_byte(out, b' ')?;
+    write_optional(out, &log.address)
+}
+
+/// What it runs.
+fn put_shown_work(out: &mut Vec<u8>, log: &ShownLog) -> Result<(), NoMemory>
+    ensures { OnOk result (out.new.items ≡ out.old.items ++ shown_work log.now) }
+{
+    put_text(out, &log.handler)?;
+    put_text(out, &log.param)?;
+    put_number(out, u64::from(log.index.get()))?;
+    put_number(out, u64::from(log.total.get()))
+}
+
+/// How it was opened and sent.
+fn put_shown_trigger(out: &mut Vec<u8>, log: &ShownLog) -> Result<(), NoMemory>
+    ensures { OnOk result (out.new.items ≡ out.old.items ++ shown_trigger log.now) }
+{
+    put_number(out, u64::from(log.retries.get()))?;
+    put_word(out, log.kind.text())?;
+    put_number(out, log.time.get())?;
+    write_byte(out, b' ')?;
+    write_signed(out, log.trigger_code)
+}
+
+/// Its result, and its mark.
+fn put_shown_result(out: &mut Vec<u8>, log: &ShownLog) -> Result<(), NoMemory>
+    ensures { OnOk result (out.new.items ≡ out.old.items ++ shown_result log.now) }
+{
+    put_optional(out, log.result_time)?;
+    write_byte(out, b' ')?;
+    write_signed(out, log.result_code)?;
+    put_text(out, &log.result_text)?;
+    put_word(out, if log.marked { "marked" } else { "unmarked" })
+}
+
+fn put_shown(out: &mut Vec<u8>, log: &ShownLog) -> Result<(), NoMemory>
+    ensures { OnOk result (out.new.items ≡ out.old.items ++ (shown_log log.now ++ shown_work log.now ++ shown_trigger log.now ++ shown_result log.now)) }
+{
+    put_shown_log(out, log)?;
+    put_shown_work(out, log)?;
+    put_shown_trigger(out, log)?;
+    put_shown_result(out, log)
+}
+
+/// A word and a number.
+fn put_count(out: &mut Vec<u8>, word: &str, number: u64) -> Result<(), NoMemory>
+    ensures { OnOk result (out.new.items ≡ out.old.items ++ (word.now ++ spaced_number number)) }
+{
+    write_word(out, word)?;
+    put_number(out, number)
+}
+
+/// A word and two numbers.
+fn put_counts(out: &mut Vec<u8>, word: &str, first: u64, second: u64) -> Result<(), NoMemory>
+    ensures { OnOk result (out.new.items ≡ out.old.items ++ (word.now ++ spaced_number first ++ spaced_number second)) }
+{
+    put_count(out, word, first)?;
+    put_number(out, second)
+}
+
 fn put_reply(out: &mut Vec<u8>, reply: &ClusterReply) -> Result<(), NoMemory>
     ensures { OnOk result (out.new.items ≡ out.old.items ++ reply_words reply.now) }
 {
     match reply {
         ClusterReply::Done => write_word(out, "ok"),
-        ClusterReply::Group(id) => {
-            write_word(out, "group")?;
-            put_number(out, u64::from(id.get()))
+        ClusterReply::Group(id) => put_count(out, "group", u64::from(id.get())),
+        ClusterReply::Job(id) => put_count(out, "job", u64::from(id.get())),
+        ClusterReply::Running(edition, next) => put_counts(out, "running", *edition, next.get()),
+        ClusterReply::Updated(edition, next) => {
+            put_count(out, "updated", *edition)?;
+            put_optional(out, *next)
         }
-        ClusterReply::Job(id) => {
-            write_word(out, "job")?;
-            put_number(out, u64::from(id.get()))
-        }
-        ClusterReply::Running(edition, next) => {
-            write_word(out, "running")?;
-            put_number(out, *edition)?;
-            put_number(out, next.get())
-        }
-        ClusterReply::Begun(count) => {
-            write_word(out, "begun")?;
-            put_number(out, *count)
-        }
-        ClusterReply::Skip(job) => {
-            write_word(out, "skip")?;
-            put_number(out, u64::from(job.get()))
-        }
+        ClusterReply::Halted(edition) => put_count(out, "halted", *edition),
+        ClusterReply::Begun(count) => put_count(out, "begun", *count),
+        ClusterReply::Skip(job) => put_count(out, "skip", u64::from(job.get())),
         ClusterReply::Look(job, case, due, next, put, opened) => {
             write_word(out, "look")?;
             put_look(out, *job, *case, *due, *next, *put)?;
             put_all_opened(out, opened.as_slice())
         }
         ClusterReply::Fired(tickets) => {
-            write_word(out, "fired")?;
-            put_number(out, tickets.len() as u64)?;
+            put_count(out, "fired", tickets.len() as u64)?;
             put_tickets(out, tickets.as_slice())
         }
+        ClusterReply::Opened(opened) => {
+            write_word(out, "opened")?;
+            put_all_opened(out, opened.as_slice())
+        }
+        ClusterReply::Shown(log) => {
+            write_word(out, "log")?;
+            put_shown(out, log)
+        }
+        ClusterReply::Stopped(lost, ended) => put_counts(out, "stopped", *lost, *ended),
+        ClusterReply::Reopened(lost, ended) => put_counts(out, "reopened", *lost, *ended),
         ClusterReply::Refused(refusal) => {
             write_word(out, "no ")?;
             put_refusal(out, *refusal)

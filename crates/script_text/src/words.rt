@@ -1,7 +1,6 @@
 //! The words of lines, read as the types that they stand for.
-ghost use Rattle.std.specs.Prelude.{◌≡◌, ℕ, List, [], ◌∷◌, codes};
+ghost use Rattle.std.specs.Prelude.{◌≡◌, [], ◌∷◌, codes};
 ghost use Rattle.line_grammar.specs.Reading.{Takes};
-ghost use Rattle.line_grammar.specs.Ends.{end_byte};
 ghost use Rattle.line_grammar.specs.Numbers.{number_at};
 ghost use Rattle.line_grammar.specs.Choices.{words_at};
 ghost use Rattle.line_grammar.specs.Dashes.{number_form};
@@ -9,8 +8,8 @@ ghost use Rattle.script_text.specs.Words.{group_kind_at, schedule_kind_at, misfi
 ghost use Rattle.script_text.specs.Lines.{other_words};
 
 use job_values::{
-    AdminNo, Block, GroupId, GroupKind, JobId, Misfire, Moment, Retries, Route, ScheduleKind,
-    Timeout,
+    AdminNo, Block, GroupId, GroupKind, JobId, LogId, Misfire, Moment, Retries, Route,
+    ScheduleKind, Timeout,
 };
 use line_grammar::{End, NumberForm, ReadError, Reader};
 
@@ -80,22 +79,24 @@ pub(crate) fn retries(reader: &mut Reader, end: End) -> Result<Retries, ReadErro
     }
 }
 
-/// The word of the only admin.
-pub(crate) fn zero(reader: &mut Reader, end: End) -> Result<usize, ReadError>
-    ensures { Takes (λ i. i) result reader.new.rest.now (words_at ((48 ∷ end_byte end ∷ []) ∷ []) reader.old.rest.now) }
+/// The number of an admin.
+pub(crate) fn admin(reader: &mut Reader, end: End) -> Result<AdminNo, ReadError>
+    ensures { Takes (λ t. t) result reader.new.rest.now (number_at (number_form 0 15 end) reader.old.rest.now) }
 {
-    match end {
-        End::Space => reader.choice(&["0 "]),
-        End::Line => reader.choice(&["0\n"]),
+    let number = reader.number(form(0, 15, end))?;
+    match AdminNo::new(number as u8) {
+        Some(admin) => Ok(admin),
+        None => unreachable!(),
     }
 }
 
-/// The only admin.
-pub(crate) fn first_admin() -> AdminNo
-    ensures { result ≡ 0 }
+/// The id of a log.
+pub(crate) fn log(reader: &mut Reader, end: End) -> Result<LogId, ReadError>
+    ensures { Takes (λ t. t) result reader.new.rest.now (number_at (number_form 1 9223372036854775807 end) reader.old.rest.now) }
 {
-    match AdminNo::new(0) {
-        Some(admin) => admin,
+    let number = reader.number(form(1, 9_223_372_036_854_775_807, end))?;
+    match LogId::new(number) {
+        Some(id) => Ok(id),
         None => unreachable!(),
     }
 }
@@ -211,11 +212,20 @@ pub(crate) fn first_word(reader: &mut Reader) -> Result<usize, ReadError>
 {
     reader.choice(&[
         "start ",
+        "stop ",
+        "ask ",
         "addgroup ",
+        "setgroup ",
         "addjob ",
+        "setjob ",
         "startjob ",
+        "stopjob ",
+        "dropjob ",
+        "fire ",
         "scan ",
         "step ",
         "turn ",
+        "showlog ",
+        "reopen\n",
     ])
 }

@@ -1,16 +1,23 @@
 //! Events written as their lines.
-ghost use Rattle.std.specs.Prelude.{◌≡◌, ◌∷◌, ◌++◌, IfOk, OnOk};
+ghost use Rattle.std.specs.Prelude.{◌≡◌, ◌∷◌, ◌++◌, IfOk, OnOk, decimal};
 ghost use Rattle.std.specs.List.{AllByRecursion};
 ghost use Rattle.line_grammar.specs.Dashes.{number_form};
 ghost use Rattle.line_grammar.specs.Laws.{IsNumberOf, IsTextOf};
-ghost use Rattle.line_grammar.specs.Writing.{spaced_number, spaced_text, counted_numbers};
+ghost use Rattle.line_grammar.specs.Writing.{spaced_number, spaced_text, counted_texts, counted_numbers};
 ghost use Rattle.line_grammar.specs.Texts.{text_form};
+ghost use Rattle.job_values.specs.Words.{group_kind_text};
+ghost use Rattle.job_values.specs.declared.cluster.ClusterEvent.TheVariants.{TriggerJob};
 ghost use Rattle.script_text.specs.Lines.{IsLine};
-ghost use Rattle.script_text.specs.Spelling.{spelling, event_words, spec_text, trigger_text, work_text, IsBuilt, IsId, IsWithin, SpecFits, WorkFits};
+ghost use Rattle.script_text.specs.Spelling.{spelling, event_words, spec_text, trigger_text, work_text, IsBuilt, IsAdmin, IsMoment, IsId, IsWithin, SpecFits, WorkFits, AddressesFit};
 
 use crate::laws::law_one_line;
-use job_values::{BoundedText, ClusterEvent, JobId, JobSpec, NoMemory, Seq};
-use line_grammar::{End, write_bounded, write_byte, write_number, write_texts, write_word};
+use job_values::{
+    Addresses, AdminNo, BoundedText, ClusterEvent, GroupKind, JobId, JobSpec, Moment, NoMemory,
+    ParamText, Seq,
+};
+use line_grammar::{
+    End, write_bounded, write_byte, write_number, write_optional, write_texts, write_word,
+};
 use std::alloc::Global;
 
 /// A number behind a space.
@@ -30,7 +37,7 @@ pub(crate) fn put_word(out: &mut Vec<u8>, word: &str) -> Result<(), NoMemory>
 }
 
 /// A text behind a space.
-fn put_text<const LEAST: usize, const MOST: usize>(
+pub(crate) fn put_text<const LEAST: usize, const MOST: usize>(
     out: &mut Vec<u8>,
     text: &BoundedText<LEAST, MOST>,
 ) -> Result<(), NoMemory>
@@ -86,46 +93,110 @@ fn put_spec(out: &mut Vec<u8>, spec: &JobSpec) -> Result<(), NoMemory>
     put_work(out, spec)
 }
 
+/// A first word and an admin.
+fn put_admin(out: &mut Vec<u8>, word: &str, admin: AdminNo) -> Result<(), NoMemory>
+    ensures written { OnOk result (out.new.items ≡ out.old.items ++ (word.now ++ decimal admin)) }
+    ensures within { IsAdmin admin }
+{
+    write_word(out, word)?;
+    write_number(out, u64::from(admin.get()))
+}
+
+/// A first word, an admin and a moment.
+fn put_admin_at(out: &mut Vec<u8>, word: &str, admin: AdminNo, at: Moment) -> Result<(), NoMemory>
+    ensures written { OnOk result (out.new.items ≡ out.old.items ++ (word.now ++ decimal admin ++ spaced_number at)) }
+    ensures within { OnOk result (IsAdmin admin × IsMoment at) }
+{
+    put_admin(out, word, admin)?;
+    put_number(out, at.get())
+}
+
+/// A first word and a job.
+fn put_job(out: &mut Vec<u8>, word: &str, job: JobId) -> Result<(), NoMemory>
+    ensures written { OnOk result (out.new.items ≡ out.old.items ++ (word.now ++ decimal job)) }
+    ensures within { IsId job }
+{
+    write_word(out, word)?;
+    write_number(out, u64::from(job.get()))
+}
+
+/// A first word, a moment and a job.
+fn put_job_at(out: &mut Vec<u8>, word: &str, at: Moment, job: JobId) -> Result<(), NoMemory>
+    ensures written { OnOk result (out.new.items ≡ out.old.items ++ (word.now ++ decimal at ++ spaced_number job)) }
+    ensures within { OnOk result (IsMoment at × IsId job) }
+{
+    write_word(out, word)?;
+    write_number(out, at.get())?;
+    put_number(out, u64::from(job.get()))
+}
+
+/// Who writes the addresses of a group, and the addresses.
+fn put_group(out: &mut Vec<u8>, kind: GroupKind, addresses: &Addresses) -> Result<(), NoMemory>
+    ensures written { OnOk result (out.new.items ≡ out.old.items ++ (32 ∷ group_kind_text kind ++ 32 ∷ counted_texts addresses.now)) }
+    ensures within { OnOk result (AddressesFit addresses.now) }
+{
+    put_word(out, kind.text())?;
+    write_byte(out, b' ')?;
+    write_texts(out, addresses.as_slice())
+}
+
+/// A firing by hand.
+fn put_fire(
+    out: &mut Vec<u8>,
+    admin: AdminNo,
+    at: Moment,
+    job: JobId,
+    param: &Option<ParamText>,
+) -> Result<(), NoMemory>
+    ensures written { OnOk result (out.new.items ≡ out.old.items ++ event_words (TriggerJob admin at job param.now)) }
+    ensures within { OnOk result (IsWithin (TriggerJob admin at job param.now)) }
+{
+    put_admin_at(out, "fire ", admin, at)?;
+    put_number(out, u64::from(job.get()))?;
+    write_byte(out, b' ')?;
+    write_optional(out, param)
+}
+
 /// An event behind the bytes that are there, up to its LF.
 fn put_event(out: &mut Vec<u8>, event: &ClusterEvent) -> Result<(), NoMemory>
     ensures written { OnOk result (out.new.items ≡ out.old.items ++ event_words event.now) }
     ensures within { OnOk result (IsWithin event.now) }
 {
     match event {
-        ClusterEvent::NodeStart(admin) => {
-            write_word(out, "start ")?;
-            write_number(out, u64::from(admin.get()))
-        }
+        ClusterEvent::NodeStart(admin) => put_admin(out, "start ", *admin),
+        ClusterEvent::NodeStop(admin) => put_admin(out, "stop ", *admin),
+        ClusterEvent::NodeAsk(admin) => put_admin(out, "ask ", *admin),
         ClusterEvent::AddGroup(app, kind, addresses) => {
             write_word(out, "addgroup ")?;
             write_bounded(out, app)?;
-            put_word(out, kind.text())?;
-            write_byte(out, b' ')?;
-            write_texts(out, addresses.as_slice())
+            put_group(out, *kind, addresses)
+        }
+        ClusterEvent::SetGroup(group, kind, addresses) => {
+            write_word(out, "setgroup ")?;
+            write_number(out, u64::from(group.get()))?;
+            put_group(out, *kind, addresses)
         }
         ClusterEvent::AddJob(spec) => {
             write_word(out, "addjob ")?;
             put_spec(out, spec)
         }
-        ClusterEvent::StartJob(at, job) => {
-            write_word(out, "startjob ")?;
-            write_number(out, at.get())?;
-            put_number(out, u64::from(job.get()))
+        ClusterEvent::UpdateJob(at, job, spec) => {
+            put_job_at(out, "setjob ", *at, *job)?;
+            write_byte(out, b' ')?;
+            put_spec(out, spec)
         }
-        ClusterEvent::ScanBegin(admin, at) => {
-            write_word(out, "scan ")?;
-            write_number(out, u64::from(admin.get()))?;
-            put_number(out, at.get())
+        ClusterEvent::StartJob(at, job) => put_job_at(out, "startjob ", *at, *job),
+        ClusterEvent::StopJob(job) => put_job(out, "stopjob ", *job),
+        ClusterEvent::RemoveJob(job) => put_job(out, "dropjob ", *job),
+        ClusterEvent::TriggerJob(admin, at, job, param) => put_fire(out, *admin, *at, *job, param),
+        ClusterEvent::ScanBegin(admin, at) => put_admin_at(out, "scan ", *admin, *at),
+        ClusterEvent::ScanStep(admin) => put_admin(out, "step ", *admin),
+        ClusterEvent::Turn(admin, at) => put_admin_at(out, "turn ", *admin, *at),
+        ClusterEvent::ReadLog(log) => {
+            write_word(out, "showlog ")?;
+            write_number(out, log.get())
         }
-        ClusterEvent::ScanStep(admin) => {
-            write_word(out, "step ")?;
-            write_number(out, u64::from(admin.get()))
-        }
-        ClusterEvent::Turn(admin, at) => {
-            write_word(out, "turn ")?;
-            write_number(out, u64::from(admin.get()))?;
-            put_number(out, at.get())
-        }
+        ClusterEvent::Reopen => write_word(out, "reopen"),
     }
 }
 

@@ -1,0 +1,38 @@
+//! Lines of groups, read word by word.
+ghost use Rattle.std.specs.Prelude.{◌≡◌};
+ghost use Rattle.line_grammar.specs.Reading.{Takes};
+ghost use Rattle.line_grammar.specs.Grammar.{reading};
+ghost use Rattle.line_grammar.specs.Dashes.{number_form};
+ghost use Rattle.line_grammar.specs.Lists.{text_list_at};
+ghost use Rattle.line_grammar.specs.Texts.{text_form};
+ghost use Rattle.script_text.specs.Lines.{addgroup_line, setgroup_line};
+
+use crate::words::{group, group_kind, group_kind_word};
+use job_values::{Addresses, ClusterEvent, Seq};
+use line_grammar::{End, ReadError, Reader};
+use std::alloc::Global;
+
+fn addresses(reader: &mut Reader, alloc: Global) -> Result<Addresses, ReadError>
+    ensures { Takes (λ v. v) result reader.new.rest.now (text_list_at 256 (text_form 1 255 End.Line) reader.old.rest.now) }
+{
+    let addresses = reader.text_list(alloc, 256, End::Line)?;
+    Ok(Addresses::of(Seq::of(addresses)))
+}
+
+pub(crate) fn addgroup(reader: &mut Reader, alloc: Global) -> Result<ClusterEvent, ReadError>
+    ensures { Takes (λ e. e) result reader.new.rest.now (reading addgroup_line reader.old.rest.now) }
+{
+    let app = reader.bounded(alloc, End::Space)?;
+    let kind = group_kind_word(reader)?;
+    let addresses = addresses(reader, alloc)?;
+    Ok(ClusterEvent::AddGroup(app, group_kind(kind), addresses))
+}
+
+pub(crate) fn setgroup(reader: &mut Reader, alloc: Global) -> Result<ClusterEvent, ReadError>
+    ensures { Takes (λ e. e) result reader.new.rest.now (reading setgroup_line reader.old.rest.now) }
+{
+    let group = group(reader, End::Space)?;
+    let kind = group_kind_word(reader)?;
+    let addresses = addresses(reader, alloc)?;
+    Ok(ClusterEvent::SetGroup(group, group_kind(kind), addresses))
+}

@@ -4,3 +4,4 @@ pub mod Marks
 pub mod OpenLogs
 pub mod Answered
 pub mod Running
+mod Rows

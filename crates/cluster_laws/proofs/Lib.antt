@@ -9,3 +9,4 @@ pub mod PlaceLemmas
 pub mod LostLemmas
 pub mod ToldLemmas
 pub mod FatesToldLemmas
+mod Rows

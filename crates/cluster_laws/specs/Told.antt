@@ -56,7 +56,7 @@ abbrev pub PlacesRise : ℕ → List Put → ℕ → Type 0
 PlacesRise low [] last = low ≤ last
 PlacesRise low (put ∷ puts) last = (low < put.place) × PlacesRise put.place puts last
 
--- a step puts at most one ticket, and no ticket is put twice; the reply of a turn tells just the tickets that it took, and the reply of a stop how many it lost, up to the greatest number of 64 bits
+-- a step puts at most one ticket, none is put twice, and the reply at a place tells those whose fate is that place: of a turn each, of a stop their number
 pub record FatesTold (h : History) : Type 0 where
   pub placed : PlacesRise 0 (puts_of h) (places h)
   pub once : (job edition due : ℕ) → count_by (is_put_for job edition due) (puts_of h) ≤ 1

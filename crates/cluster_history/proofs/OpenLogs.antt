@@ -21,7 +21,7 @@ use Rattle.cluster_history.specs.Logs.{placed_from, one_more, log_of, added_of, 
 use Rattle.cluster_history.specs.Runs.{OpensWell}
 use Rattle.cluster_history.proofs.RowIds.{logs_rise}
 use Rattle.cluster_history.proofs.OpenRows.{none-passes, same-pass, ended-closed, open-apart, old-open, new-open, if_own}
-use Rattle.cluster_history.proofs.Marks.{has, AreLow, low-behind, low-raised, marked, changed-marked, has-joined}
+use Rattle.cluster_history.proofs.Marks.{has, AreLow, low-behind, low-more, marked, changed-marked, has-joined}
 
 abbrev ids_in : List Log → List ℕ
 ids_in logs = map (λ log. log.id) logs
@@ -147,13 +147,13 @@ placed-low last queued (shot ∷ shots) = by (ltb queued MOST_FAST) (placed-low 
   where
     by : (b : Bool) → AreLow (last + 1 + length shots) (added_of (placed_from (last + 1) (one_more queued) shots))
         → AreLow (last + suc (length shots)) (added_of (record { shot = shot; log = last + 1; pool = cond b Fast Full } ∷ placed_from (last + 1) (one_more queued) shots))
-    by true rest = (omega arith, low-raised (last + 1 + length shots) (last + suc (length shots)) (added_of (placed_from (last + 1) (one_more queued) shots)) rest (omega arith))
-    by false rest = low-raised (last + 1 + length shots) (last + suc (length shots)) (added_of (placed_from (last + 1) (one_more queued) shots)) rest (omega arith)
+    by true rest = (omega arith, low-more (last + 1 + length shots) (last + suc (length shots)) (added_of (placed_from (last + 1) (one_more queued) shots)) rest (omega arith))
+    by false rest = low-more (last + 1 + length shots) (last + suc (length shots)) (added_of (placed_from (last + 1) (one_more queued) shots)) rest (omega arith)
 
 low-behind_if : (last queued : ℕ) (ids : List ℕ) (shots : List Shot) (b : Bool) → AreLow last ids → AreLow (last + length shots) (cond b (ids ++ added_of (placed_from last queued shots)) ids)
 low-behind_if last queued ids shots true low =
-    low-behind (last + length shots) ids (added_of (placed_from last queued shots)) (low-raised last (last + length shots) ids low (omega arith)) (placed-low last queued shots)
-low-behind_if last queued ids shots false low = low-raised last (last + length shots) ids low (omega arith)
+    low-behind (last + length shots) ids (added_of (placed_from last queued shots)) (low-more last (last + length shots) ids low (omega arith)) (placed-low last queued shots)
+low-behind_if last queued ids shots false low = low-more last (last + length shots) ids low (omega arith)
 
 low-emptied : (last : ℕ) (ids : List ℕ) (b : Bool) → AreLow last ids → AreLow last (cond b [] ids)
 low-emptied last ids true low = tt

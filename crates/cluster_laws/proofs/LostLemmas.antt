@@ -1,5 +1,5 @@
 -- A stop of all admins loses every waiting ticket.
-use Rattle.std.proofs.Common.{◌≡◌, ℕ, zero, suc, ◌+◌, ◌<◌, ◌≤◌, List, [], ◌∷◌, Bool, true, false, cond, eqb, map, length, refl, sym, ap, ◌∙◌, arith}
+use Rattle.std.proofs.Common.{◌≡◌, ℕ, zero, suc, ◌+◌, ◌<◌, ◌≤◌, List, [], ◌∷◌, Bool, true, false, cond, eqb, map, length, refl, sym, ◌∙◌, arith}
 use Rattle.std.specs.List.{count_by, sum, range_with_len, AllByRecursion}
 use Rattle.std.proofs.lemmas.Bool.{false≢true}
 use Rattle.std.proofs.lemmas.Bool.Decides.{nat_tests}
@@ -15,6 +15,7 @@ use Rattle.cluster_history.specs.Tickets.{waiting, waiting_at, is_at}
 use Rattle.cluster_history.specs.Replies.{over_running}
 use Rattle.cluster_history.specs.Runs.{IsAnswered}
 use Rattle.cluster_history.proofs.Running.{tickets_run}
+use Rattle.cluster_history.proofs.Reopened.{reopened_lost}
 use Rattle.cluster_laws.specs.Told.{StartsAdmins}
 use Rattle.cluster_laws.proofs.CountLemmas.{count-cons}
 
@@ -91,33 +92,21 @@ pub accepted-starts : (h : History) → StartsAdmins h → StartsAdmins (accepte
 accepted-starts (Begin o) starts = tt
 accepted-starts (After h e r) starts = kept-starts (is_refusal r) h (accepted h) e r starts (accepted-starts h (starts-before h e r starts))
 
--- what a running admin has of a list with one ticket more
-one-more : (b same : Bool) (n : ℕ) → (same ≡ true → b ≡ true) → cond b (cond {A = ℕ} same 1 0 + n) 0 ≡ cond {A = ℕ} same 1 0 + cond b n 0
-one-more true same n only = refl
-one-more false true n only = absurd (false≢true (only refl))
-one-more false false n only = omega arith
-
-over-one : (f : ℕ → Bool) (ticket : Ticket) (tickets : List Ticket) (a : ℕ) → f ticket.admin ≡ true
-    → cond (f a) (count_by (is_at a) (ticket ∷ tickets)) 0 ≡ cond {A = ℕ} (eqb ticket.admin a) 1 0 + cond (f a) (count_by (is_at a) tickets) 0
-over-one f ticket tickets a is =
-    ap (λ n. cond (f a) n 0) (count-cons (is_at a) ticket tickets)
-    ∙ one-more (f a) (eqb ticket.admin a) (count_by (is_at a) tickets) (λ test. let same : ticket.admin ≡ a = grind (arith, nat_tests) in sym (ap f same) ∙ is)
-
-no-count : (b : Bool) → cond {A = ℕ} b 0 0 ≡ 0
-no-count true = refl
-no-count false = refl
-
-over-all : (f : ℕ → Bool) (tickets : List Ticket) → ((a : ℕ) → f a ≡ true → a < ADMINS) → AllByRecursion (λ ticket. f ticket.admin ≡ true) tickets
-    → sum (map (λ a. cond (f a) (count_by (is_at a) tickets) 0) admins) ≡ length tickets
-over-all f [] low run = sum-zero (λ a. cond (f a) 0 0) (λ a. no-count (f a)) admins
-over-all f (ticket ∷ tickets) low run =
+-- a ticket counts once among the admins
+count-admins : (tickets : List Ticket) → AllByRecursion (λ ticket. ticket.admin < ADMINS) tickets → sum (map (λ a. count_by (is_at a) tickets) admins) ≡ length tickets
+count-admins [] low = sum-zero (λ a. 0) (λ a. refl) admins
+count-admins (ticket ∷ tickets) low =
     omega (
       arith,
-      sum-add (λ a. cond (eqb ticket.admin a) 1 0) (λ a. cond (f a) (count_by (is_at a) tickets) 0) (λ a. cond (f a) (count_by (is_at a) (ticket ∷ tickets)) 0) (λ a. over-one f ticket tickets a run.0) admins,
-      range-one ticket.admin 0 ADMINS (omega arith) (omega (arith, low ticket.admin run.0)),
-      over-all f tickets low run.1,
+      sum-add (λ a. cond (eqb ticket.admin a) 1 0) (λ a. count_by (is_at a) tickets) (λ a. count_by (is_at a) (ticket ∷ tickets)) (λ a. count-cons (is_at a) ticket tickets) admins,
+      range-one ticket.admin 0 ADMINS (omega arith) (omega (arith, low.0)),
+      count-admins tickets low.1,
     )
+
+low-admins : (f : ℕ → Bool) (tickets : List Ticket) → ((a : ℕ) → f a ≡ true → a < ADMINS) → AllByRecursion (λ ticket. f ticket.admin ≡ true) tickets → AllByRecursion (λ ticket. ticket.admin < ADMINS) tickets
+low-admins f [] low run = tt
+low-admins f (ticket ∷ tickets) low run = (low ticket.admin run.0, low-admins f tickets low run.1)
 
 -- over the admins that run, all waiting tickets are counted
 pub lost-all : (h : History) → IsAnswered h → StartsAdmins h → over_running h (waiting_at h) ≡ length (waiting h)
-lost-all h answered starts = over-all (runs h) (waiting h) (runs-low h starts) (tickets_run h answered)
+lost-all h answered starts = reopened_lost h answered ∙ count-admins (waiting h) (low-admins (runs h) (waiting h) (runs-low h starts) (tickets_run h answered))

@@ -9,4 +9,5 @@ pub mod PlaceLemmas
 pub mod LostLemmas
 pub mod ToldLemmas
 pub mod FatesToldLemmas
+pub mod FiredLogLemmas
 mod Rows

@@ -3,3 +3,4 @@ pub mod Fates
 pub mod Owners
 pub mod Dues
 pub mod Told
+pub mod FiredLogs

@@ -4,6 +4,7 @@ ghost use Rattle.cluster_laws.specs.Fates.{WaitingByFate};
 ghost use Rattle.cluster_laws.specs.Owners.{OneScan};
 ghost use Rattle.cluster_laws.specs.Dues.{EachDueOnce};
 ghost use Rattle.cluster_laws.specs.Told.{EachFateTold};
+ghost use Rattle.cluster_laws.specs.FiredLogs.{EachFiringOpens};
 
 use cron_schedule::laws::law_after_rises;
 
@@ -28,6 +29,11 @@ pub fn law_dues()
 {
     law_after_rises();
 }
+
+/// What a step and a turn open is what their firings for due times open, one after another.
+pub fn law_firings()
+    ensures { EachFiringOpens }
+{}
 
 /// A ticket has one fate: it waits, or the reply of one turn tells it, or the number of one stop counts it.
 pub fn law_fates()

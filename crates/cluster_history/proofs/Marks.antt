@@ -5,6 +5,11 @@ use Rattle.std.proofs.lemmas.Bool.Decides.{nat_tests}
 use Rattle.std.proofs.lemmas.List.Folds.{list_any-append}
 use Rattle.job_records.specs.Rows.{IsRising}
 
+-- a filter that lets nothing through
+pub kept-none : {X : Type 0} (xs : List X) → filter (λ x. false) xs ≡ []
+kept-none [] = refl
+kept-none (x ∷ xs) = kept-none xs
+
 -- whether a list has this id
 abbrev pub has : List ℕ → ℕ → Bool
 has ids n = list_any (λ id. eqb id n) ids

@@ -10,6 +10,7 @@ use Rattle.cluster_history.specs.History.{Begin, After}
 use Rattle.cluster_history.specs.Looks.{Looked}
 use Rattle.cluster_history.specs.Jobs.{look_of}
 use Rattle.cluster_history.specs.Tickets.{waiting, is_at, is_taken, second_of, put_behind, put_due}
+use Rattle.cluster_history.proofs.Marks.{kept-none}
 use Rattle.cluster_laws.specs.Fates.{Fate, Waiting, Taken, Lost, Put, places, fate_at, fate_after, aged, put_new, puts_of, waits, waiting_in, WaitingByFate}
 
 waiting-append : (xs ys : List Put) → waiting_in (xs ++ ys) ≡ waiting_in xs ++ waiting_in ys
@@ -40,10 +41,6 @@ left-aged e place (put ∷ puts) = left-one e place put.place put.ticket put.fat
 all-kept : (ts : List Ticket) → filter (λ t. true) ts ≡ ts
 all-kept [] = refl
 all-kept (t ∷ ts) = ap (λ us. t ∷ us) (all-kept ts)
-
-none-kept : (ts : List Ticket) → filter (λ t. false) ts ≡ []
-none-kept [] = refl
-none-kept (t ∷ ts) = none-kept ts
 
 -- an entry that puts no ticket leaves those that pass a test
 left-those : (e : ClusterEvent) (place : ℕ) (test : Ticket → Bool) (puts : List Put) (ts : List Ticket) → ((t : Ticket) → test t ≡ waits (fate_at e place t)) → ts ≡ waiting_in puts
@@ -81,5 +78,5 @@ waiting-is (After h (Turn admin at) r) =
     left-those (Turn admin at) (places h + 1) (λ t. not (is_taken admin (second_of at) t)) (puts_of h) (waiting h) (λ t. taken-waits (places h + 1) (is_taken admin (second_of at) t)) (waiting-is h)
 waiting-is (After h (NodeStop admin) r) =
     left-those (NodeStop admin) (places h + 1) (λ t. not (is_at admin t)) (puts_of h) (waiting h) (λ t. lost-waits (places h + 1) (is_at admin t)) (waiting-is h)
-waiting-is (After h Reopen r) = sym (none-kept (waiting h)) ∙ left-those Reopen (places h + 1) (λ t. false) (puts_of h) (waiting h) (λ t. refl) (waiting-is h)
+waiting-is (After h Reopen r) = sym (kept-none (waiting h)) ∙ left-those Reopen (places h + 1) (λ t. false) (puts_of h) (waiting h) (λ t. refl) (waiting-is h)
 waiting-is (After h e r) = sym (all-kept (waiting h)) ∙ left-those e (places h + 1) (λ t. true) (puts_of h) (waiting h) (λ t. refl) (waiting-is h)

@@ -4,3 +4,5 @@ pub mod Marks
 pub mod OpenLogs
 pub mod Answered
 pub mod Running
+pub mod Reopened
+mod Rows

@@ -5,6 +5,11 @@ use Rattle.std.proofs.lemmas.Bool.Decides.{nat_tests}
 use Rattle.std.proofs.lemmas.List.Folds.{list_any-append}
 use Rattle.job_records.specs.Rows.{IsRising}
 
+-- a filter that lets nothing through
+pub kept-none : {X : Type 0} (xs : List X) → filter (λ x. false) xs ≡ []
+kept-none [] = refl
+kept-none (x ∷ xs) = kept-none xs
+
 -- whether a list has this id
 abbrev pub has : List ℕ → ℕ → Bool
 has ids n = list_any (λ id. eqb id n) ids
@@ -20,7 +25,7 @@ low-lacks top n (id ∷ ids) low above =
     let test : eqb id n ≡ false = grind (arith, nat_tests) in
     ap (λ b. b || has ids n) test ∙ low-lacks top n ids low.1 above
 
-low-more : (top more : ℕ) (ids : List ℕ) → AreLow top ids → top ≤ more → AreLow more ids
+pub low-more : (top more : ℕ) (ids : List ℕ) → AreLow top ids → top ≤ more → AreLow more ids
 low-more top more [] low above = tt
 low-more top more (id ∷ ids) low above = let first : id ≤ top = low.0 in (omega arith, low-more top more ids low.1 above)
 
@@ -31,9 +36,6 @@ low-push low id (first ∷ ids) ids_low above = let head : first ≤ low = ids_l
 pub low-behind : (top : ℕ) (ids more : List ℕ) → AreLow top ids → AreLow top more → AreLow top (ids ++ more)
 low-behind top [] more low low2 = low2
 low-behind top (id ∷ ids) more low low2 = (low.0, low-behind top ids more low.1 low2)
-
-pub low-raised : (top more : ℕ) (ids : List ℕ) → AreLow top ids → top ≤ more → AreLow more ids
-low-raised top more ids low below = low-more top more ids low below
 
 -- the ids of rows that rise from above a bound are not below it
 kept-lacks : {R : Type 0} (id_of : R → ℕ) (passes : R → Bool) (low last n : ℕ) (rows : List R) → IsRising id_of low rows last → n ≤ low → has (map id_of (filter passes rows)) n ≡ false

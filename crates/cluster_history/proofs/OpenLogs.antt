@@ -21,15 +21,10 @@ use Rattle.cluster_history.specs.Logs.{placed_from, one_more, log_of, added_of, 
 use Rattle.cluster_history.specs.Runs.{OpensWell}
 use Rattle.cluster_history.proofs.RowIds.{logs_rise}
 use Rattle.cluster_history.proofs.OpenRows.{none-passes, same-pass, ended-closed, open-apart, old-open, new-open, if_own}
-use Rattle.cluster_history.proofs.Marks.{has, AreLow, low-behind, low-raised, marked, changed-marked, has-joined}
+use Rattle.cluster_history.proofs.Marks.{kept-none, has, AreLow, low-behind, low-more, marked, changed-marked, has-joined}
 
 abbrev ids_in : List Log → List ℕ
 ids_in logs = map (λ log. log.id) logs
-
--- a filter that lets nothing through
-none-open : (logs : List Log) → filter (λ log. false) logs ≡ []
-none-open [] = refl
-none-open (log ∷ logs) = none-open logs
 
 -- logs that an admin opens are open at it, and at no other
 open-own : (q : ℕ → List ℕ) (a admin last : ℕ) (shots : List Shot) (b : Bool) → eqb a admin ≡ b
@@ -89,7 +84,7 @@ reopened-open f a logs below =
 
 -- the open logs of an admin are those in its pool, in order
 pub open_logs : (h : History) → OpensWell (opening_of h) → (a : ℕ) → a < ADMINS → map (λ log. log.id) (filter (is_open_of h a) (logs_of h)) ≡ queue_of h a
-open_logs (Begin o) well a below = ap ids_in (none-open o.logs)
+open_logs (Begin o) well a below = ap ids_in (kept-none o.logs)
 open_logs (After h (NodeStop admin) r) well a below = stopped-open (opener_of h) a admin (logs_of h) (queue_of h a) (eqb a admin) refl (open_logs h well a below)
 open_logs (After h Reopen r) well a below = reopened-open (opener_of h) a (logs_of h) below
 open_logs (After h (ScanStep admin) r) well a below = opened-behind (opener_of h) (queue_of h) a admin (last_log h) (logs_of h) (shots_stepped h) (logs_rise h well) (open_logs h well a below)
@@ -147,13 +142,13 @@ placed-low last queued (shot ∷ shots) = by (ltb queued MOST_FAST) (placed-low 
   where
     by : (b : Bool) → AreLow (last + 1 + length shots) (added_of (placed_from (last + 1) (one_more queued) shots))
         → AreLow (last + suc (length shots)) (added_of (record { shot = shot; log = last + 1; pool = cond b Fast Full } ∷ placed_from (last + 1) (one_more queued) shots))
-    by true rest = (omega arith, low-raised (last + 1 + length shots) (last + suc (length shots)) (added_of (placed_from (last + 1) (one_more queued) shots)) rest (omega arith))
-    by false rest = low-raised (last + 1 + length shots) (last + suc (length shots)) (added_of (placed_from (last + 1) (one_more queued) shots)) rest (omega arith)
+    by true rest = (omega arith, low-more (last + 1 + length shots) (last + suc (length shots)) (added_of (placed_from (last + 1) (one_more queued) shots)) rest (omega arith))
+    by false rest = low-more (last + 1 + length shots) (last + suc (length shots)) (added_of (placed_from (last + 1) (one_more queued) shots)) rest (omega arith)
 
 low-behind_if : (last queued : ℕ) (ids : List ℕ) (shots : List Shot) (b : Bool) → AreLow last ids → AreLow (last + length shots) (cond b (ids ++ added_of (placed_from last queued shots)) ids)
 low-behind_if last queued ids shots true low =
-    low-behind (last + length shots) ids (added_of (placed_from last queued shots)) (low-raised last (last + length shots) ids low (omega arith)) (placed-low last queued shots)
-low-behind_if last queued ids shots false low = low-raised last (last + length shots) ids low (omega arith)
+    low-behind (last + length shots) ids (added_of (placed_from last queued shots)) (low-more last (last + length shots) ids low (omega arith)) (placed-low last queued shots)
+low-behind_if last queued ids shots false low = low-more last (last + length shots) ids low (omega arith)
 
 low-emptied : (last : ℕ) (ids : List ℕ) (b : Bool) → AreLow last ids → AreLow last (cond b [] ids)
 low-emptied last ids true low = tt

@@ -1,82 +1,82 @@
 -- The tickets that wait are those whose fate is not decided.
 use Rattle.std.proofs.Common.{◌≡◌, ℕ, ◌+◌, List, [], ◌∷◌, ◌++◌, Bool, true, false, cond, Option, Some, None, map, not, refl, sym, ap, ◌∙◌, append-nil}
+use Rattle.std.specs.List.{filter}
+use Rattle.std.proofs.lemmas.List.{map-append}
+use Rattle.std.proofs.lemmas.List.Elements.{filter-append, filter_agree}
 use Rattle.job_values.specs.declared.cluster.ClusterEvent.{ClusterEvent}
-use Rattle.job_values.specs.declared.cluster.ClusterEvent.TheVariants.{NodeStart, AddGroup, AddJob, StartJob, ScanBegin, ScanStep, Turn}
+use Rattle.job_values.specs.declared.cluster.ClusterEvent.TheVariants.{NodeStop, ScanStep, Turn, Reopen}
 use Rattle.cluster_history.specs.declared.ticket.Ticket.{Ticket}
 use Rattle.cluster_history.specs.History.{Begin, After}
 use Rattle.cluster_history.specs.Looks.{Looked}
 use Rattle.cluster_history.specs.Jobs.{look_of}
-use Rattle.cluster_history.specs.Tickets.{waiting, is_taken, second_of, left, put_behind, put_due}
-use Rattle.cluster_laws.specs.Fates.{Fate, Waiting, Taken, Put, places, fate_at, fate_after, aged, put_new, puts_of, waiting_in, WaitingByFate}
-
--- a ticket that waits is seen, one that was taken is not
-abbrev seen : Fate → Ticket → List Ticket → List Ticket
-seen Waiting ticket rest = ticket ∷ rest
-seen (Taken p) ticket rest = rest
-
-waiting-cons : (place : ℕ) (ticket : Ticket) (fate : Fate) (puts : List Put) → waiting_in (record { place = place; ticket = ticket; fate = fate } ∷ puts) ≡ seen fate ticket (waiting_in puts)
-waiting-cons place ticket Waiting puts = refl
-waiting-cons place ticket (Taken p) puts = refl
-
-append-one : (fate : Fate) (place : ℕ) (ticket : Ticket) (xs ys : List Put) → waiting_in (xs ++ ys) ≡ waiting_in xs ++ waiting_in ys
-    → waiting_in (record { place = place; ticket = ticket; fate = fate } ∷ xs ++ ys) ≡ waiting_in (record { place = place; ticket = ticket; fate = fate } ∷ xs) ++ waiting_in ys
-append-one Waiting place ticket xs ys more = ap (λ ts. ticket ∷ ts) more
-append-one (Taken p) place ticket xs ys more = more
+use Rattle.cluster_history.specs.Tickets.{waiting, is_at, is_taken, second_of, put_behind, put_due}
+use Rattle.cluster_history.proofs.Marks.{kept-none}
+use Rattle.cluster_laws.specs.Fates.{Fate, Waiting, Taken, Lost, Put, places, fate_at, fate_after, aged, put_new, puts_of, waits, waiting_in, WaitingByFate}
 
 waiting-append : (xs ys : List Put) → waiting_in (xs ++ ys) ≡ waiting_in xs ++ waiting_in ys
-waiting-append [] ys = refl
-waiting-append (put ∷ xs) ys = append-one put.fate put.place put.ticket xs ys (waiting-append xs ys)
+waiting-append xs ys =
+    ap (λ puts. map (λ (put : Put). put.ticket) puts) (filter-append (λ (put : Put). waits put.fate) xs ys)
+    ∙ map-append (λ (put : Put). put.ticket) (filter (λ (put : Put). waits put.fate) xs) (filter (λ (put : Put). waits put.fate) ys)
 
--- entries that end no waiting
-same-one : (e : ClusterEvent) (place from : ℕ) (ticket : Ticket) (fate : Fate) (xs ys : List Put) → fate_at e place ticket ≡ Waiting → waiting_in xs ≡ waiting_in ys
-    → waiting_in (record { place = from; ticket = ticket; fate = fate_after e place ticket fate } ∷ xs) ≡ waiting_in (record { place = from; ticket = ticket; fate = fate } ∷ ys)
-same-one e place from ticket Waiting xs ys still more =
-    waiting-cons from ticket (fate_at e place ticket) xs ∙ ap (λ f. seen f ticket (waiting_in xs)) still ∙ ap (λ ts. ticket ∷ ts) more
-same-one e place from ticket (Taken p) xs ys still more = more
+-- of the tickets that waited, those that the entry leaves wait
+left-by : (place : ℕ) (ticket : Ticket) (fate : Fate) (puts : List Put) (ts : List Ticket) (b : Bool) → waits fate ≡ b → waiting_in puts ≡ ts
+    → waiting_in (record { place = place; ticket = ticket; fate = fate } ∷ puts) ≡ cond b (ticket ∷ ts) ts
+left-by place ticket fate puts ts true is more =
+    ap (λ b. map (λ (put : Put). put.ticket) (cond b (record { place = place; ticket = ticket; fate = fate } ∷ filter (λ put. waits put.fate) puts) (filter (λ put. waits put.fate) puts))) is
+    ∙ ap (λ us. ticket ∷ us) more
+left-by place ticket fate puts ts false is more =
+    ap (λ b. map (λ (put : Put). put.ticket) (cond b (record { place = place; ticket = ticket; fate = fate } ∷ filter (λ put. waits put.fate) puts) (filter (λ put. waits put.fate) puts))) is
+    ∙ more
 
-same-aged : (e : ClusterEvent) (place : ℕ) (puts : List Put) → ((t : Ticket) → fate_at e place t ≡ Waiting) → waiting_in (map (aged e place) puts) ≡ waiting_in puts
-same-aged e place [] still = refl
-same-aged e place (put ∷ puts) still = same-one e place put.place put.ticket put.fate (map (aged e place) puts) puts (still put.ticket) (same-aged e place puts still)
+left-one : (e : ClusterEvent) (place from : ℕ) (ticket : Ticket) (fate : Fate) (xs ys : List Put) → waiting_in xs ≡ filter (λ t. waits (fate_at e place t)) (waiting_in ys)
+    → waiting_in (record { place = from; ticket = ticket; fate = fate_after e place ticket fate } ∷ xs) ≡ filter (λ t. waits (fate_at e place t)) (waiting_in (record { place = from; ticket = ticket; fate = fate } ∷ ys))
+left-one e place from ticket Waiting xs ys more = left-by from ticket (fate_at e place ticket) xs (filter (λ t. waits (fate_at e place t)) (waiting_in ys)) (waits (fate_at e place ticket)) refl more
+left-one e place from ticket (Taken p) xs ys more = more
+left-one e place from ticket (Lost p) xs ys more = more
 
-same-all : (e : ClusterEvent) (place : ℕ) (puts : List Put) → ((t : Ticket) → fate_at e place t ≡ Waiting) → waiting_in (map (aged e place) puts ++ []) ≡ waiting_in puts
-same-all e place puts still = ap waiting_in (append-nil (map (aged e place) puts)) ∙ same-aged e place puts still
+left-aged : (e : ClusterEvent) (place : ℕ) (puts : List Put) → waiting_in (map (aged e place) puts) ≡ filter (λ t. waits (fate_at e place t)) (waiting_in puts)
+left-aged e place [] = refl
+left-aged e place (put ∷ puts) = left-one e place put.place put.ticket put.fate (map (aged e place) puts) puts (left-aged e place puts)
 
--- a turn leaves the tickets that it does not take
-left-one : (admin at place from : ℕ) (ticket : Ticket) (b : Bool) (xs : List Put) (ts : List Ticket) → waiting_in xs ≡ left admin (second_of at) ts
-    → waiting_in (record { place = from; ticket = ticket; fate = cond b (Taken place) Waiting } ∷ xs) ≡ cond (not b) (ticket ∷ left admin (second_of at) ts) (left admin (second_of at) ts)
-left-one admin at place from ticket true xs ts more = more
-left-one admin at place from ticket false xs ts more = ap (λ us. ticket ∷ us) more
+all-kept : (ts : List Ticket) → filter (λ t. true) ts ≡ ts
+all-kept [] = refl
+all-kept (t ∷ ts) = ap (λ us. t ∷ us) (all-kept ts)
 
-left-put : (admin at place from : ℕ) (ticket : Ticket) (fate : Fate) (xs ys : List Put) → waiting_in xs ≡ left admin (second_of at) (waiting_in ys)
-    → waiting_in (record { place = from; ticket = ticket; fate = fate_after (Turn admin at) place ticket fate } ∷ xs) ≡ left admin (second_of at) (waiting_in (record { place = from; ticket = ticket; fate = fate } ∷ ys))
-left-put admin at place from ticket Waiting xs ys more = left-one admin at place from ticket (is_taken admin (second_of at) ticket) xs (waiting_in ys) more
-left-put admin at place from ticket (Taken p) xs ys more = more
+-- an entry that puts no ticket leaves those that pass a test
+left-those : (e : ClusterEvent) (place : ℕ) (test : Ticket → Bool) (puts : List Put) (ts : List Ticket) → ((t : Ticket) → test t ≡ waits (fate_at e place t)) → ts ≡ waiting_in puts
+    → filter test ts ≡ waiting_in (map (aged e place) puts ++ [])
+left-those e place test puts ts same before =
+    ap (λ us. filter test us) before
+    ∙ filter_agree test (λ t. waits (fate_at e place t)) same (waiting_in puts)
+    ∙ sym (left-aged e place puts)
+    ∙ sym (ap waiting_in (append-nil (map (aged e place) puts)))
 
-left-aged : (admin at place : ℕ) (puts : List Put) → waiting_in (map (aged (Turn admin at) place) puts) ≡ left admin (second_of at) (waiting_in puts)
-left-aged admin at place [] = refl
-left-aged admin at place (put ∷ puts) = left-put admin at place put.place put.ticket put.fate (map (aged (Turn admin at) place) puts) puts (left-aged admin at place puts)
+taken-waits : (place : ℕ) (b : Bool) → not b ≡ waits (cond b (Taken place) Waiting)
+taken-waits place true = refl
+taken-waits place false = refl
+
+lost-waits : (place : ℕ) (b : Bool) → not b ≡ waits (cond b (Lost place) Waiting)
+lost-waits place true = refl
+lost-waits place false = refl
 
 -- a step puts its ticket behind the others
-put-new_due : (admin job edition place : ℕ) (put : Option ℕ) (before : List Ticket) → before ++ waiting_in (map (put_new place) (put_due admin job edition put [])) ≡ put_due admin job edition put before
-put-new_due admin job edition place None before = append-nil before
+put-new_due : (admin job edition place : ℕ) (put : Option ℕ) (before : List Ticket) → put_due admin job edition put before ≡ before ++ waiting_in (map (put_new place) (put_due admin job edition put []))
+put-new_due admin job edition place None before = sym (append-nil before)
 put-new_due admin job edition place (Some due) before = refl
 
-put-new_behind : (admin place : ℕ) (look : Option Looked) (before : List Ticket) → before ++ waiting_in (map (put_new place) (put_behind admin look [])) ≡ put_behind admin look before
-put-new_behind admin place None before = append-nil before
+put-new_behind : (admin place : ℕ) (look : Option Looked) (before : List Ticket) → put_behind admin look before ≡ before ++ waiting_in (map (put_new place) (put_behind admin look []))
+put-new_behind admin place None before = sym (append-nil before)
 put-new_behind admin place (Some look) before = put-new_due admin look.row.id look.row.edition place look.decision.put before
 
 pub waiting-is : WaitingByFate
 waiting-is (Begin o) = refl
-waiting-is (After h (NodeStart admin) r) = waiting-is h ∙ sym (same-all (NodeStart admin) (places h + 1) (puts_of h) (λ t. refl))
-waiting-is (After h (AddGroup app kind addresses) r) = waiting-is h ∙ sym (same-all (AddGroup app kind addresses) (places h + 1) (puts_of h) (λ t. refl))
-waiting-is (After h (AddJob spec) r) = waiting-is h ∙ sym (same-all (AddJob spec) (places h + 1) (puts_of h) (λ t. refl))
-waiting-is (After h (StartJob at job) r) = waiting-is h ∙ sym (same-all (StartJob at job) (places h + 1) (puts_of h) (λ t. refl))
-waiting-is (After h (ScanBegin admin at) r) = waiting-is h ∙ sym (same-all (ScanBegin admin at) (places h + 1) (puts_of h) (λ t. refl))
 waiting-is (After h (ScanStep admin) r) =
-    sym (put-new_behind admin (places h + 1) (look_of h) (waiting h))
-    ∙ ap (λ ts. ts ++ waiting_in (map (put_new (places h + 1)) (put_behind admin (look_of h) []))) (waiting-is h ∙ sym (same-aged (ScanStep admin) (places h + 1) (puts_of h) (λ t. refl)))
+    put-new_behind admin (places h + 1) (look_of h) (waiting h)
+    ∙ ap (λ ts. ts ++ waiting_in (map (put_new (places h + 1)) (put_behind admin (look_of h) []))) (waiting-is h ∙ sym (all-kept (waiting_in (puts_of h))) ∙ sym (left-aged (ScanStep admin) (places h + 1) (puts_of h)))
     ∙ sym (waiting-append (map (aged (ScanStep admin) (places h + 1)) (puts_of h)) (map (put_new (places h + 1)) (put_behind admin (look_of h) [])))
 waiting-is (After h (Turn admin at) r) =
-    ap (λ ts. left admin (second_of at) ts) (waiting-is h)
-    ∙ sym (left-aged admin at (places h + 1) (puts_of h))
-    ∙ sym (ap waiting_in (append-nil (map (aged (Turn admin at) (places h + 1)) (puts_of h))))
+    left-those (Turn admin at) (places h + 1) (λ t. not (is_taken admin (second_of at) t)) (puts_of h) (waiting h) (λ t. taken-waits (places h + 1) (is_taken admin (second_of at) t)) (waiting-is h)
+waiting-is (After h (NodeStop admin) r) =
+    left-those (NodeStop admin) (places h + 1) (λ t. not (is_at admin t)) (puts_of h) (waiting h) (λ t. lost-waits (places h + 1) (is_at admin t)) (waiting-is h)
+waiting-is (After h Reopen r) = sym (kept-none (waiting h)) ∙ left-those Reopen (places h + 1) (λ t. false) (puts_of h) (waiting h) (λ t. refl) (waiting-is h)
+waiting-is (After h e r) = sym (all-kept (waiting h)) ∙ left-those e (places h + 1) (λ t. true) (puts_of h) (waiting h) (λ t. refl) (waiting-is h)

@@ -1,5 +1,13 @@
+pub mod CountLemmas
+pub mod TurnLemmas
 pub mod MomentLemmas
 pub mod FateLemmas
 pub mod OwnerLemmas
 pub mod RiseLemmas
 pub mod OnceLemmas
+pub mod PlaceLemmas
+pub mod LostLemmas
+pub mod ToldLemmas
+pub mod FatesToldLemmas
+pub mod FiredLogLemmas
+mod Rows

@@ -2,7 +2,7 @@
 use Rattle.std.proofs.Common.{◌≡◌, ℕ, ◌+◌, List, [], ◌∷◌, Bool, true, false, cond, eqb, Option, Some, None, map, refl, sym, ap, ◌∙◌, subst, arith}
 use Rattle.std.specs.List.{slice_get}
 use Rattle.std.proofs.lemmas.Bool.Decides.{nat_tests}
-use Rattle.job_values.specs.declared.cluster.ClusterEvent.TheVariants.{NodeStart, AddGroup, AddJob, StartJob, ScanBegin, ScanStep, Turn}
+use Rattle.job_values.specs.declared.cluster.ClusterEvent.TheVariants.{AddJob, UpdateJob, StartJob, StopJob, ScanStep}
 use Rattle.job_values.specs.declared.job.JobSpec.{JobSpec}
 use Rattle.job_records.specs.declared.job.Job.{Job}
 use Rattle.misfire_rules.specs.Decide.{decided}
@@ -11,7 +11,7 @@ use Rattle.cluster_history.specs.declared.scan.Scan.{Scan}
 use Rattle.cluster_history.specs.declared.scan.Seat.{Seat}
 use Rattle.cluster_history.specs.History.{History, Begin, After, settings_of}
 use Rattle.cluster_history.specs.Looks.{Looked, look_in, look_seat, look_row, look_due, next_looked, job_with}
-use Rattle.cluster_history.specs.Jobs.{last_job, ids_of, jobs_of, row_of, spec_of, plan_of, next_of, scan_of, look_of, first_time}
+use Rattle.cluster_history.specs.Jobs.{last_job, ids_of, jobs_of, row_of, spec_of, plan_of, next_of, scan_of, look_of, first_time, updated_time}
 use Rattle.cluster_laws.specs.Moments.{moments_looked, moments_of, first_of, carried_once, carried, NextTimesCarried}
 
 pub some-same : {X : Type 0} (x y : X) → Some x ≡ Some y → x ≡ y
@@ -74,22 +74,23 @@ looked-by h scan None j e before = before
 looked-by h None (Some look) j e before = (cc)
 looked-by h (Some scan) (Some look) j e before = looked-cases h scan look j (eqb j look.row.id) refl (seat-right h scan (slice_get scan.page scan.steps) look e) before
 
-added-by : (h : History) (spec : JobSpec) (j : ℕ) (b : Bool) → next_of h j ≡ carried (settings_of h).offset (spec_of h j) (first_of h j) (moments_of h j)
-    → cond b None (next_of h j) ≡ carried (settings_of h).offset (cond b spec (spec_of h j)) (cond b None (first_of h j)) (cond b [] (moments_of h j))
-added-by h spec j true before = refl
-added-by h spec j false before = before
+-- a job that gets another spec, or none, begins anew
+based-by : (h : History) (spec : JobSpec) (first : Option ℕ) (j : ℕ) (b : Bool) → next_of h j ≡ carried (settings_of h).offset (spec_of h j) (first_of h j) (moments_of h j)
+    → cond b first (next_of h j) ≡ carried (settings_of h).offset (cond b spec (spec_of h j)) (cond b first (first_of h j)) (cond b [] (moments_of h j))
+based-by h spec first j true before = refl
+based-by h spec first j false before = before
 
-started-by : (h : History) (first : Option ℕ) (j : ℕ) (b : Bool) → next_of h j ≡ carried (settings_of h).offset (spec_of h j) (first_of h j) (moments_of h j)
+-- so does one that keeps its spec
+begun-by : (h : History) (first : Option ℕ) (j : ℕ) (b : Bool) → next_of h j ≡ carried (settings_of h).offset (spec_of h j) (first_of h j) (moments_of h j)
     → cond b first (next_of h j) ≡ carried (settings_of h).offset (spec_of h j) (cond b first (first_of h j)) (cond b [] (moments_of h j))
-started-by h first j true before = refl
-started-by h first j false before = before
+begun-by h first j true before = refl
+begun-by h first j false before = before
 
 pub next-carried : NextTimesCarried
 next-carried (Begin o) j = refl
-next-carried (After h (NodeStart admin) r) j = next-carried h j
-next-carried (After h (AddGroup app kind addresses) r) j = next-carried h j
-next-carried (After h (AddJob spec) r) j = added-by h spec j (eqb j (last_job h + 1)) (next-carried h j)
-next-carried (After h (StartJob at job) r) j = started-by h (first_time (settings_of h).offset (plan_of (spec_of h j)) at) j (eqb j job) (next-carried h j)
-next-carried (After h (ScanBegin admin at) r) j = next-carried h j
+next-carried (After h (AddJob spec) r) j = based-by h spec None j (eqb j (last_job h + 1)) (next-carried h j)
+next-carried (After h (UpdateJob at job spec) r) j = based-by h spec (updated_time (settings_of h).offset (plan_of spec) at (next_of h j)) j (eqb j job) (next-carried h j)
+next-carried (After h (StartJob at job) r) j = begun-by h (first_time (settings_of h).offset (plan_of (spec_of h j)) at) j (eqb j job) (next-carried h j)
+next-carried (After h (StopJob job) r) j = begun-by h None j (eqb j job) (next-carried h j)
 next-carried (After h (ScanStep admin) r) j = looked-by h (scan_of h) (look_of h) j refl (next-carried h j)
-next-carried (After h (Turn admin at) r) j = next-carried h j
+next-carried (After h _ r) j = next-carried h j

@@ -1,88 +1,26 @@
 -- No due time is fired for more often than it was looked at.
-use Rattle.std.proofs.Common.{◌≡◌, ℕ, ◌+◌, ◌%◌, ◌<◌, ◌≤◌, ℤ, List, [], ◌∷◌, ◌++◌, Bool, true, false, cond, eqb, nat_lt, ◌&&◌, ◌||◌, not, Option, Some, None, is_some, map, length, refl, sym, ap, ◌∙◌, subst, arith}
-use Rattle.std.specs.List.{filter, slice_get}
+use Rattle.std.proofs.Common.{◌≡◌, ℕ, ◌+◌, ◌<◌, ◌≤◌, ℤ, List, [], ◌∷◌, ◌++◌, Bool, true, false, cond, eqb, nat_lt, ◌&&◌, not, Option, Some, None, is_some, refl, sym, ap, subst, arith}
+use Rattle.std.specs.List.{filter, count_by, slice_get}
 use Rattle.std.proofs.lemmas.Bool.Decides.{nat_tests}
 use Rattle.job_values.specs.declared.words.Misfire.{Misfire}
 use Rattle.job_values.specs.declared.words.Case.TheVariants as case
-use Rattle.job_values.specs.declared.cluster.ClusterEvent.{ClusterEvent}
-use Rattle.job_values.specs.declared.cluster.ClusterReply.{ClusterReply}
-use Rattle.job_values.specs.declared.cluster.ClusterEvent.TheVariants.{NodeStart, AddGroup, AddJob, StartJob, ScanBegin, ScanStep, Turn}
+use Rattle.job_values.specs.declared.cluster.ClusterEvent.TheVariants.{NodeStop, ScanStep, Turn, Reopen}
 use Rattle.cron_schedule.specs.declared.plan.Plan.{Plan}
 use Rattle.cron_schedule.specs.After.{time_after, TimesRise}
 use Rattle.misfire_rules.specs.declared.decision.Decision.{Decision}
 use Rattle.misfire_rules.specs.Decide.{decided, misfire_decision, late_decision, late_with, early_decision, fires_once}
 use Rattle.cluster_history.specs.declared.scan.Scan.{Scan}
 use Rattle.cluster_history.specs.declared.ticket.Ticket.{Ticket}
-use Rattle.cluster_history.specs.History.{History, Begin, After, accepted, with_entry, is_refusal, settings_of}
+use Rattle.cluster_history.specs.History.{History, Begin, After, accepted, settings_of}
 use Rattle.cluster_history.specs.Looks.{Looked, look_in, job_with}
 use Rattle.cluster_history.specs.Jobs.{jobs_of, scan_of, look_of}
-use Rattle.cluster_history.specs.Tickets.{waiting, is_in_slot, slot_of, present_slot, past_slot, taken, left, second_of, put_due, put_behind}
-use Rattle.cluster_history.specs.Runs.{IsLegal}
+use Rattle.cluster_history.specs.Tickets.{waiting, is_at, taken, second_of, put_due, put_behind}
 use Rattle.cluster_laws.specs.Dues.{times_by, times_of, dues_looked, dues_of, FallsFrom, Falls, fired_now, fired_for, is_for, times_fired, EachDueOnce}
 use Rattle.cluster_laws.proofs.MomentLemmas.{LooksRight, seat-right}
-use Rattle.cluster_laws.proofs.RiseLemmas.{IsOpenedWell, dues-hold}
-
-cons-by : {X : Type 0} (b : Bool) (x : X) (xs : List X) → length (cond b (x ∷ xs) xs) ≡ cond b 1 0 + length xs
-cons-by true x xs = omega arith
-cons-by false x xs = omega arith
-
-count-cons : {X : Type 0} (p : X → Bool) (x : X) (xs : List X) → length (filter p (x ∷ xs)) ≡ cond (p x) 1 0 + length (filter p xs)
-count-cons p x xs = cons-by (p x) x (filter p xs)
-
-count-append : {X : Type 0} (p : X → Bool) (xs ys : List X) → length (filter p (xs ++ ys)) ≡ length (filter p xs) + length (filter p ys)
-count-append p [] ys = omega arith
-count-append p (x ∷ xs) ys = omega (arith, count-cons p x (xs ++ ys), count-cons p x xs, count-append p xs ys)
-
-count-map : {X Y : Type 0} (p : Y → Bool) (f : X → Y) (xs : List X) → length (filter p (map f xs)) ≡ length (filter (λ x. p (f x)) xs)
-count-map p f [] = refl
-count-map p f (x ∷ xs) = omega (arith, count-cons p (f x) (map f xs), count-cons (λ y. p (f y)) x xs, count-map p f xs)
-
-kept-one : {X : Type 0} (q : X → Bool) (x : X) (b : Bool) (kept all : List X) → length (filter q kept) ≤ length (filter q all) → length (filter q (cond b (x ∷ kept) kept)) ≤ length (filter q (x ∷ all))
-kept-one q x true kept all less = omega (arith, count-cons q x kept, count-cons q x all)
-kept-one q x false kept all less = omega (arith, count-cons q x all)
-
-count-kept : {X : Type 0} (q s : X → Bool) (xs : List X) → length (filter q (filter s xs)) ≤ length (filter q xs)
-count-kept q s [] = omega arith
-count-kept q s (x ∷ xs) = kept-one q x (s x) (filter s xs) xs (count-kept q s xs)
-
-split-one : (q : Ticket → Bool) (w : Ticket) (b c : Bool) (f1 f2 f3 all : List Ticket) → (b ≡ true → c ≡ true → ⊥)
-    → length (filter q f1) + length (filter q f2) + length (filter q f3) ≤ length (filter q all)
-    → length (filter q (cond b (w ∷ f1) f1)) + length (filter q (cond c (w ∷ f2) f2)) + length (filter q (cond (not (b || c)) (w ∷ f3) f3)) ≤ length (filter q (w ∷ all))
-split-one q w true true f1 f2 f3 all apart less = absurd (apart refl refl)
-split-one q w true false f1 f2 f3 all apart less = omega (arith, count-cons q w f1, count-cons q w all)
-split-one q w false true f1 f2 f3 all apart less = omega (arith, count-cons q w f2, count-cons q w all)
-split-one q w false false f1 f2 f3 all apart less = omega (arith, count-cons q w f3, count-cons q w all)
-
--- a list that two tests split in three
-split : (q s t : Ticket → Bool) (ws : List Ticket) → ((w : Ticket) → s w ≡ true → t w ≡ true → ⊥)
-    → length (filter q (filter s ws)) + length (filter q (filter t ws)) + length (filter q (filter (λ w. not (s w || t w)) ws)) ≤ length (filter q ws)
-split q s t [] apart = omega arith
-split q s t (w ∷ ws) apart = split-one q w (s w) (t w) (filter s ws) (filter t ws) (filter (λ x. not (s x || t x)) ws) ws (apart w) (split q s t ws apart)
-
-and-right : (a b : Bool) → (a && b) ≡ true → b ≡ true
-and-right true b e = e
-and-right false b e = (cc)
-
-same-slot : (m n : ℕ) → eqb m n ≡ true → m ≡ n
-same-slot m n e = grind (arith, nat_tests)
-
--- no ticket is in both slots of a turn
-slots-apart : (admin second : ℕ) (w : Ticket) → is_in_slot admin (present_slot second) w ≡ true → is_in_slot admin (past_slot second) w ≡ true → ⊥
-slots-apart admin second w p q =
-    let here : slot_of w.due ≡ second % 60 = same-slot (slot_of w.due) (present_slot second) (and-right (eqb w.admin admin) _ p) in
-    let there : slot_of w.due ≡ (second + 59) % 60 = same-slot (slot_of w.due) (past_slot second) (and-right (eqb w.admin admin) _ q) in
-    let same : second % 60 ≡ (second + 59) % 60 = sym here ∙ there in
-    omega arith
-
--- what a turn fires and leaves is what waited, at most
-turn-covers : (q : Ticket → Bool) (present : Ticket → Bool) (admin second : ℕ) (ws : List Ticket) → length (filter q (filter present (taken admin second ws))) + length (filter q (left admin second ws)) ≤ length (filter q ws)
-turn-covers q present admin second ws =
-    omega (
-      arith,
-      count-kept q present (taken admin second ws),
-      count-append q (filter (is_in_slot admin (present_slot second)) ws) (filter (is_in_slot admin (past_slot second)) ws),
-      split q (is_in_slot admin (present_slot second)) (is_in_slot admin (past_slot second)) ws (slots-apart admin second),
-    )
+use Rattle.cluster_history.proofs.Answered.{accepted_opens}
+use Rattle.cluster_laws.proofs.CountLemmas.{count-cons, count-append, count-map, count-kept}
+use Rattle.cluster_laws.proofs.TurnLemmas.{turn-covers}
+use Rattle.cluster_laws.proofs.RiseLemmas.{dues-hold}
 
 -- how often a put time is a time
 abbrev put_count : ℕ → Option ℕ → ℕ
@@ -94,7 +32,7 @@ fire_count t due fires = cond fires (cond (eqb t due) 1 0) 0
 
 -- a decision fires and puts no time but its times, each once
 abbrev Covers : ℕ → ℕ → Decision → Type 0
-Covers t due d = fire_count t due d.fire_now + put_count t d.put ≤ length (filter (λ x. eqb t x) (times_by d.case due d.put))
+Covers t due d = fire_count t due d.fire_now + put_count t d.put ≤ count_by (λ x. eqb t x) (times_by d.case due d.put)
 
 fire-most : (t due : ℕ) (fires : Bool) → fire_count t due fires ≤ cond (eqb t due) 1 0
 fire-most t due true = omega arith
@@ -117,15 +55,15 @@ decided-covers : (t due now : ℕ) (offset : ℤ) (plan : Plan) (misfire : Misfi
 decided-covers t due now offset plan misfire = decided-by_covers t due now offset plan misfire (nat_lt (due + 5000) now) (nat_lt due now)
 
 -- tickets that are for a due time of a job in an edition
-abbrev waits_for : ℕ → ℕ → ℕ → Ticket → Bool
+abbrev pub waits_for : ℕ → ℕ → ℕ → Ticket → Bool
 waits_for j e t ticket = is_for j e t (fired_for ticket)
 
-fired-by : (j e t : ℕ) (look : Looked) (fires : Bool) → length (filter (is_for j e t) (cond fires (record { job = look.row.id; edition = look.row.edition; due = look.due } ∷ []) []))
+fired-by : (j e t : ℕ) (look : Looked) (fires : Bool) → count_by (is_for j e t) (cond fires (record { job = look.row.id; edition = look.row.edition; due = look.due } ∷ []) [])
     ≡ cond fires (cond (((eqb j look.row.id) && (eqb e look.row.edition)) && (eqb t look.due)) 1 0) 0
 fired-by j e t look true = omega (arith, count-cons (is_for j e t) (record { job = look.row.id; edition = look.row.edition; due = look.due }) [])
 fired-by j e t look false = refl
 
-put-by : (j e t admin job edition : ℕ) (put : Option ℕ) (ws : List Ticket) (b : Bool) → ((eqb j job) && (eqb e edition)) ≡ b → length (filter (waits_for j e t) (put_due admin job edition put ws)) ≡ length (filter (waits_for j e t) ws) + cond b (put_count t put) 0
+put-by : (j e t admin job edition : ℕ) (put : Option ℕ) (ws : List Ticket) (b : Bool) → ((eqb j job) && (eqb e edition)) ≡ b → count_by (waits_for j e t) (put_due admin job edition put ws) ≡ count_by (waits_for j e t) ws + cond b (put_count t put) 0
 put-by j e t admin job edition None ws true test = omega arith
 put-by j e t admin job edition None ws false test = omega arith
 put-by j e t admin job edition (Some due) ws true test =
@@ -140,14 +78,14 @@ same-cond : (b : Bool) → cond {A = ℕ} b 0 0 ≡ 0
 same-cond true = refl
 same-cond false = refl
 
-look-covers_by : (j e t admin fired : ℕ) (look : Looked) (ws : List Ticket) (dues : List ℕ) (b : Bool) → ((eqb j look.row.id) && (eqb e look.row.edition)) ≡ b → Covers t look.due look.decision → fired + length (filter (waits_for j e t) ws) ≤ length (filter (λ x. eqb t x) dues)
-    → (cond look.decision.fire_now (cond (b && (eqb t look.due)) 1 0) 0 + fired) + (length (filter (waits_for j e t) ws) + cond b (put_count t look.decision.put) 0) ≤ length (filter (λ x. eqb t x) (cond b (times_of look ++ dues) dues))
+look-covers_by : (j e t admin fired : ℕ) (look : Looked) (ws : List Ticket) (dues : List ℕ) (b : Bool) → ((eqb j look.row.id) && (eqb e look.row.edition)) ≡ b → Covers t look.due look.decision → fired + count_by (waits_for j e t) ws ≤ count_by (λ x. eqb t x) dues
+    → (cond look.decision.fire_now (cond (b && (eqb t look.due)) 1 0) 0 + fired) + (count_by (waits_for j e t) ws + cond b (put_count t look.decision.put) 0) ≤ count_by (λ x. eqb t x) (cond b (times_of look ++ dues) dues)
 look-covers_by j e t admin fired look ws dues true test covers before = omega (arith, count-append (λ x. eqb t x) (times_of look) dues)
 look-covers_by j e t admin fired look ws dues false test covers before = let none : cond {A = ℕ} look.decision.fire_now 0 0 ≡ 0 = same-cond look.decision.fire_now in omega arith
 
 -- what a look fires and puts is among its times
-look-covers : (h : History) (j e t admin fired : ℕ) (scan : Scan) (look : Looked) (ws : List Ticket) (dues : List ℕ) → LooksRight h scan look → fired + length (filter (waits_for j e t) ws) ≤ length (filter (λ x. eqb t x) dues)
-    → (length (filter (is_for j e t) (fired_now (Some look))) + fired) + length (filter (waits_for j e t) (put_behind admin (Some look) ws)) ≤ length (filter (λ x. eqb t x) (dues_looked (Some look) j e dues))
+look-covers : (h : History) (j e t admin fired : ℕ) (scan : Scan) (look : Looked) (ws : List Ticket) (dues : List ℕ) → LooksRight h scan look → fired + count_by (waits_for j e t) ws ≤ count_by (λ x. eqb t x) dues
+    → (count_by (is_for j e t) (fired_now (Some look)) + fired) + count_by (waits_for j e t) (put_behind admin (Some look) ws) ≤ count_by (λ x. eqb t x) (dues_looked (Some look) j e dues)
 look-covers h j e t admin fired scan look ws dues right before =
     let D : Decision → Type 0 = λ d. Covers t look.due d in
     let covers : Covers t look.due look.decision = subst D (sym right.decision) (decided-covers t look.due scan.at (settings_of h).offset look.row.schedule look.row.spec.misfire) in
@@ -156,21 +94,16 @@ look-covers h j e t admin fired scan look ws dues right before =
     let all = look-covers_by j e t admin fired look ws dues ((eqb j look.row.id) && (eqb e look.row.edition)) refl covers before in
     omega (arith, f, p, all)
 
-step-covers : (h : History) (j e t admin fired : ℕ) (scan : Option Scan) (look : Option Looked) (ws : List Ticket) (dues : List ℕ) → look_in (settings_of h).offset scan (jobs_of h) ≡ look → fired + length (filter (waits_for j e t) ws) ≤ length (filter (λ x. eqb t x) dues)
-    → (length (filter (is_for j e t) (fired_now look)) + fired) + length (filter (waits_for j e t) (put_behind admin look ws)) ≤ length (filter (λ x. eqb t x) (dues_looked look j e dues))
+pub step-covers : (h : History) (j e t admin fired : ℕ) (scan : Option Scan) (look : Option Looked) (ws : List Ticket) (dues : List ℕ) → look_in (settings_of h).offset scan (jobs_of h) ≡ look → fired + count_by (waits_for j e t) ws ≤ count_by (λ x. eqb t x) dues
+    → (count_by (is_for j e t) (fired_now look) + fired) + count_by (waits_for j e t) (put_behind admin look ws) ≤ count_by (λ x. eqb t x) (dues_looked look j e dues)
 step-covers h j e t admin fired scan None ws dues is before = omega arith
 step-covers h j e t admin fired None (Some look) ws dues is before = (cc)
 step-covers h j e t admin fired (Some scan) (Some look) ws dues is before =
     look-covers h j e t admin fired scan look ws dues (seat-right h scan (slice_get scan.page scan.steps) look is) before
 
 -- firings and waiting tickets for a due time are no more than the looks at it
-covered : (h : History) (j e t : ℕ) → times_fired h j e t + length (filter (waits_for j e t) (waiting h)) ≤ length (filter (λ x. eqb t x) (dues_of h j e))
+covered : (h : History) (j e t : ℕ) → times_fired h j e t + count_by (waits_for j e t) (waiting h) ≤ count_by (λ x. eqb t x) (dues_of h j e)
 covered (Begin o) j e t = omega arith
-covered (After h (NodeStart admin) r) j e t = omega (arith, covered h j e t)
-covered (After h (AddGroup app kind addresses) r) j e t = omega (arith, covered h j e t)
-covered (After h (AddJob spec) r) j e t = omega (arith, covered h j e t)
-covered (After h (StartJob at job) r) j e t = omega (arith, covered h j e t)
-covered (After h (ScanBegin admin at) r) j e t = omega (arith, covered h j e t)
 covered (After h (ScanStep admin) r) j e t = step-covers h j e t admin (times_fired h j e t) (scan_of h) (look_of h) (waiting h) (dues_of h j e) refl (covered h j e t)
 covered (After h (Turn admin at) r) j e t =
     let present : Ticket → Bool = λ ticket. is_some (job_with ticket.job (jobs_of h)) in
@@ -180,9 +113,12 @@ covered (After h (Turn admin at) r) j e t =
       count-map (is_for j e t) fired_for (filter (λ ticket. is_some (job_with ticket.job (jobs_of h))) (taken admin (second_of at) (waiting h))),
       turn-covers (waits_for j e t) (λ ticket. is_some (job_with ticket.job (jobs_of h))) admin (second_of at) (waiting h),
     )
+covered (After h (NodeStop admin) r) j e t = omega (arith, covered h j e t, count-kept (waits_for j e t) (λ ticket. not (is_at admin ticket)) (waiting h))
+covered (After h Reopen r) j e t = omega (arith, covered h j e t)
+covered (After h _ r) j e t = omega (arith, covered h j e t)
 
 -- a time that is not below the first is not among times that fall
-not-above : (top t : ℕ) (ts : List ℕ) → FallsFrom top ts → top ≤ t → length (filter (λ x. eqb t x) ts) ≡ 0
+not-above : (top t : ℕ) (ts : List ℕ) → FallsFrom top ts → top ≤ t → count_by (λ x. eqb t x) ts ≡ 0
 not-above top t [] falls up = refl
 not-above top t (x ∷ ts) falls up =
     let first : x < top = falls.0 in
@@ -190,29 +126,21 @@ not-above top t (x ∷ ts) falls up =
     let none : cond {A = ℕ} (eqb t x) 1 0 ≡ 0 = ap (λ (b : Bool). cond {A = ℕ} b 1 0) other in
     omega (arith, count-cons (λ y. eqb t y) x ts, not-above x t ts falls.1 (omega arith))
 
-falls-once : (x t : ℕ) (ts : List ℕ) (b : Bool) → eqb t x ≡ b → FallsFrom x ts → length (filter (λ y. eqb t y) ts) ≤ 1 → cond b 1 0 + length (filter (λ y. eqb t y) ts) ≤ 1
+falls-once : (x t : ℕ) (ts : List ℕ) (b : Bool) → eqb t x ≡ b → FallsFrom x ts → count_by (λ y. eqb t y) ts ≤ 1 → cond b 1 0 + count_by (λ y. eqb t y) ts ≤ 1
 falls-once x t ts true test falls few = let same : t ≡ x = grind (arith, nat_tests) in omega (arith, not-above x t ts falls (omega arith))
 falls-once x t ts false test falls few = omega arith
 
-from-once : (top t : ℕ) (ts : List ℕ) → FallsFrom top ts → length (filter (λ x. eqb t x) ts) ≤ 1
+from-once : (top t : ℕ) (ts : List ℕ) → FallsFrom top ts → count_by (λ x. eqb t x) ts ≤ 1
 from-once top t [] falls = omega arith
 from-once top t (x ∷ ts) falls = omega (arith, count-cons (λ y. eqb t y) x ts, falls-once x t ts (eqb t x) refl falls.1 (from-once x t ts falls.1))
 
-all-once : (t : ℕ) (ts : List ℕ) → Falls ts → length (filter (λ x. eqb t x) ts) ≤ 1
+pub all-once : (t : ℕ) (ts : List ℕ) → Falls ts → count_by (λ x. eqb t x) ts ≤ 1
 all-once t [] falls = omega arith
 all-once t (x ∷ ts) falls = omega (arith, count-cons (λ y. eqb t y) x ts, falls-once x t ts (eqb t x) refl falls (from-once x t ts falls))
 
-opened-by : (b : Bool) (h : History) (e : ClusterEvent) (r : ClusterReply) → IsOpenedWell h → IsOpenedWell (with_entry b h e r)
-opened-by true h e r well = well
-opened-by false h e r well = well
-
-legal-opened : (h : History) → IsLegal h → IsOpenedWell (accepted h)
-legal-opened (Begin o) legal = legal.0
-legal-opened (After h e r) legal = opened-by (is_refusal r) (accepted h) e r (legal-opened h legal.0)
-
 pub each-once : TimesRise → EachDueOnce
 each-once rise h legal j e =
-    let holds = dues-hold rise (accepted h) j e (legal-opened h legal) in
+    let holds = dues-hold rise (accepted h) j e (accepted_opens h legal) in
     record {
       falls = holds.falls;
       once = λ t. omega (arith, covered (accepted h) j e t, all-once t (dues_of (accepted h) j e) holds.falls);

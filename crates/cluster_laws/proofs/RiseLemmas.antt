@@ -3,7 +3,7 @@ use Rattle.std.proofs.Common.{◌≡◌, ◌≢◌, ℕ, ◌+◌, ◌<◌, ◌�
 use Rattle.std.proofs.lemmas.Bool.Decides.{nat_tests}
 use Rattle.job_values.specs.declared.words.Misfire.{Misfire}
 use Rattle.job_values.specs.declared.words.Case.TheVariants as case
-use Rattle.job_values.specs.declared.cluster.ClusterEvent.TheVariants.{NodeStart, AddGroup, AddJob, StartJob, ScanBegin, ScanStep, Turn}
+use Rattle.job_values.specs.declared.cluster.ClusterEvent.TheVariants.{AddJob, UpdateJob, StartJob, StopJob, ScanStep}
 use Rattle.job_records.specs.declared.job.Job.{Job}
 use Rattle.job_records.specs.Rows.{IsRising}
 use Rattle.job_records.proofs.RowLemmas.{rising-ends}
@@ -13,9 +13,11 @@ use Rattle.misfire_rules.specs.declared.decision.Decision.{Decision}
 use Rattle.misfire_rules.specs.Decide.{decided, misfire_decision, late_decision, late_with, early_decision}
 use Rattle.cluster_history.specs.declared.scan.Scan.{Scan}
 use Rattle.cluster_history.specs.declared.scan.Seat.{Seat}
-use Rattle.cluster_history.specs.History.{History, Begin, After, settings_of}
+use Rattle.cluster_history.specs.History.{History, Begin, After, opening_of, settings_of}
 use Rattle.cluster_history.specs.Looks.{Looked, look_in, look_seat, look_row, look_due, next_looked, job_with}
-use Rattle.cluster_history.specs.Jobs.{last_job, ids_of, jobs_of, row_of, spec_of, edition_of, plan_of, next_of, scan_of, look_of, first_time}
+use Rattle.cluster_history.specs.Jobs.{last_job, ids_of, jobs_of, row_of, spec_of, edition_of, plan_of, next_of, scan_of, look_of, first_time, updated_time}
+use Rattle.cluster_history.specs.Runs.{OpensWell}
+use Rattle.cluster_history.proofs.RowIds.{ids_rise}
 use Rattle.cluster_laws.specs.Dues.{times_by, times_of, dues_looked, dues_of, FallsFrom, Falls}
 use Rattle.cluster_laws.proofs.MomentLemmas.{LooksRight, seat-right, some-same}
 use Rattle.std.specs.List.{slice_get}
@@ -70,32 +72,12 @@ abbrev LowIds : ℕ → List ℕ → Type 0
 LowIds last [] = Unit {0}
 LowIds last (j ∷ js) = (j ≤ last) × LowIds last js
 
-low-more : (last more : ℕ) (js : List ℕ) → last ≤ more → LowIds last js → LowIds more js
-low-more last more [] up low = tt
-low-more last more (j ∷ js) up low = let first : j ≤ last = low.0 in (omega arith, low-more last more js up low.1)
+rising-low : (low last : ℕ) (ids : List ℕ) → IsRising (λ id. id) low ids last → LowIds last ids
+rising-low low last [] rising = tt
+rising-low low last (j ∷ js) rising = (rising-ends (λ (id : ℕ). id) j last js rising.1, rising-low j last js rising.1)
 
-low-push : (last : ℕ) (js : List ℕ) → LowIds last js → LowIds (last + 1) (js ++ (last + 1) ∷ [])
-low-push last [] low = (omega arith, tt)
-low-push last (j ∷ js) low = let first : j ≤ last = low.0 in (omega arith, low-push last js low.1)
-
-low-rows : (low last : ℕ) (rows : List Job) → IsRising (λ job. job.id) low rows last → LowIds last (map (λ job. job.id) rows)
-low-rows low last [] rising = tt
-low-rows low last (row ∷ rows) rising = (rising-ends (λ job. job.id) row.id last rows rising.1, low-rows row.id last rows rising.1)
-
--- the opening's job ids rise up to the last one
-abbrev pub IsOpenedWell : History → Type 0
-IsOpenedWell (Begin o) = IsRising (λ job. job.id) 0 o.jobs o.last_job
-IsOpenedWell (After h e r) = IsOpenedWell h
-
-ids-low : (h : History) → IsOpenedWell h → LowIds (last_job h) (ids_of h)
-ids-low (Begin o) well = low-rows 0 o.last_job o.jobs well
-ids-low (After h (NodeStart admin) r) well = ids-low h well
-ids-low (After h (AddGroup app kind addresses) r) well = ids-low h well
-ids-low (After h (AddJob spec) r) well = low-push (last_job h) (ids_of h) (ids-low h well)
-ids-low (After h (StartJob at job) r) well = ids-low h well
-ids-low (After h (ScanBegin admin at) r) well = ids-low h well
-ids-low (After h (ScanStep admin) r) well = ids-low h well
-ids-low (After h (Turn admin at) r) well = ids-low h well
+ids-low : (h : History) → OpensWell (opening_of h) → LowIds (last_job h) (ids_of h)
+ids-low h well = rising-low 0 (last_job h) (ids_of h) (ids_rise h well)
 
 low-here : (h : History) (last job j : ℕ) (rest : Option Job) (row : Job) (b : Bool) → j ≤ last → (rest ≡ Some row → row.id ≤ last) → cond b (Some (row_of h j)) rest ≡ Some row → row.id ≤ last
 low-here h last job j rest row true low more e = let same : row_of h j ≡ row = some-same (row_of h j) row e in let id : j ≡ row.id = ap (λ (r : Job). r.id) same in omega arith
@@ -187,12 +169,11 @@ holds-stepped rise h (Some scan) (Some look) j e dues is low holds =
     holds-looked rise h scan look j e dues (eqb j look.row.id) (eqb e look.row.edition) refl refl (seat-right h scan (slice_get scan.page scan.steps) look is)
     (low-seat h (last_job h) (settings_of h).offset scan.at (slice_get scan.page scan.steps) look low is) holds
 
-pub dues-hold : (rise : TimesRise) (h : History) (j e : ℕ) → IsOpenedWell h → Holds j e (last_job h) (edition_of h j) (next_of h j) (dues_of h j e)
+pub dues-hold : (rise : TimesRise) (h : History) (j e : ℕ) → OpensWell (opening_of h) → Holds j e (last_job h) (edition_of h j) (next_of h j) (dues_of h j e)
 dues-hold rise (Begin o) j e well = record { falls = tt; under = λ same. under-empty (next_of (Begin o) j); fresh = λ lower. refl; unborn = λ above. refl }
-dues-hold rise (After h (NodeStart admin) r) j e well = dues-hold rise h j e well
-dues-hold rise (After h (AddGroup app kind addresses) r) j e well = dues-hold rise h j e well
 dues-hold rise (After h (AddJob spec) r) j e well = holds-added j e (last_job h) (edition_of h j) (next_of h j) (dues_of h j e) (eqb j (last_job h + 1)) refl (dues-hold rise h j e well)
+dues-hold rise (After h (UpdateJob at job spec) r) j e well = holds-started j e (last_job h) (edition_of h j) (next_of h j) (updated_time (settings_of h).offset (plan_of spec) at (next_of h j)) (dues_of h j e) (eqb j job) (dues-hold rise h j e well)
 dues-hold rise (After h (StartJob at job) r) j e well = holds-started j e (last_job h) (edition_of h j) (next_of h j) (first_time (settings_of h).offset (plan_of (spec_of h j)) at) (dues_of h j e) (eqb j job) (dues-hold rise h j e well)
-dues-hold rise (After h (ScanBegin admin at) r) j e well = dues-hold rise h j e well
+dues-hold rise (After h (StopJob job) r) j e well = holds-started j e (last_job h) (edition_of h j) (next_of h j) None (dues_of h j e) (eqb j job) (dues-hold rise h j e well)
 dues-hold rise (After h (ScanStep admin) r) j e well = holds-stepped rise h (scan_of h) (look_of h) j e (dues_of h j e) refl (ids-low h well) (dues-hold rise h j e well)
-dues-hold rise (After h (Turn admin at) r) j e well = dues-hold rise h j e well
+dues-hold rise (After h _ r) j e well = dues-hold rise h j e well

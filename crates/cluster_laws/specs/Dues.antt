@@ -1,5 +1,5 @@
 -- The due times of a job in an edition, and how often each is fired for.
-use Rattle.std.specs.Prelude.{ℕ, ◌+◌, ◌<◌, ◌≤◌, ◌==◌, List, [], ◌∷◌, ◌++◌, map, filter, length, Bool, ◌&&◌, is_some, Option, Some, None, if◌then◌else◌}
+use Rattle.std.specs.Prelude.{ℕ, ◌+◌, ◌<◌, ◌≤◌, ◌==◌, List, [], ◌∷◌, ◌++◌, map, filter, count_by, Bool, ◌&&◌, is_some, Option, Some, None, if◌then◌else◌}
 use Rattle.job_values.specs.declared.words.Case.{Case}
 use Rattle.job_values.specs.declared.words.Case.TheVariants as case
 use Rattle.job_values.specs.declared.cluster.ClusterEvent.{ClusterEvent}
@@ -74,13 +74,13 @@ is_for job edition due firing = ((job == firing.job) && (edition == firing.editi
 -- how often a job in an edition was fired for a due time
 abbrev pub times_fired : History → ℕ → ℕ → ℕ → ℕ
 times_fired (Begin o) job edition due = 0
-times_fired (After h e r) job edition due = length (filter (is_for job edition due) (firings_of h e)) + times_fired h job edition due
+times_fired (After h e r) job edition due = count_by (is_for job edition due) (firings_of h e) + times_fired h job edition due
 
 -- the times of a job in an edition rise, and each is fired for at most once, and no other time is
 pub record DuesRise (h : History) (job edition : ℕ) : Type 0 where
   pub falls : Falls (dues_of h job edition)
   pub once : (due : ℕ) → times_fired h job edition due ≤ 1
-  pub known : (due : ℕ) → times_fired h job edition due ≤ length (filter (λ time. due == time) (dues_of h job edition))
+  pub known : (due : ℕ) → times_fired h job edition due ≤ count_by (λ time. due == time) (dues_of h job edition)
 
 -- so in every legal history
 abbrev pub EachDueOnce : Type 0

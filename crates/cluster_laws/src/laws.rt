@@ -3,6 +3,8 @@ ghost use Rattle.cluster_laws.specs.Moments.{NextTimesCarried};
 ghost use Rattle.cluster_laws.specs.Fates.{WaitingByFate};
 ghost use Rattle.cluster_laws.specs.Owners.{OneScan};
 ghost use Rattle.cluster_laws.specs.Dues.{EachDueOnce};
+ghost use Rattle.cluster_laws.specs.Told.{EachFateTold};
+ghost use Rattle.cluster_laws.specs.FiredLogs.{EachFiringOpens};
 
 use cron_schedule::laws::law_after_rises;
 
@@ -16,7 +18,7 @@ pub fn law_waiting()
     ensures { WaitingByFate }
 {}
 
-/// While a scan is open no other begins, and every step is its owner's.
+/// A scan begins while no other is open, and every step is its owner's.
 pub fn law_scans()
     ensures { OneScan }
 {}
@@ -24,6 +26,18 @@ pub fn law_scans()
 /// The due times of a job in an edition rise, and each is fired for at most once.
 pub fn law_dues()
     ensures { EachDueOnce }
+{
+    law_after_rises();
+}
+
+/// What a step and a turn open is what their firings for due times open, one after another.
+pub fn law_firings()
+    ensures { EachFiringOpens }
+{}
+
+/// A ticket has one fate: it waits, or the reply of one turn tells it, or the number of one stop counts it.
+pub fn law_fates()
+    ensures { EachFateTold }
 {
     law_after_rises();
 }

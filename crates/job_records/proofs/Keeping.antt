@@ -14,15 +14,12 @@ use Rattle.job_records.specs.declared.last_ids.LastIds.{LastIds}
 use Rattle.job_records.specs.declared.log.Log.{Log}
 use Rattle.job_records.specs.Rows.{row_with, IsRising}
 use Rattle.job_records.specs.Order.{id_order}
+pub use Rattle.job_records.specs.Rules.{HasPlace}
 use Rattle.job_records.specs.Rules.{RunsByNext, HasItsSchedule, HasGroup, HasAddress, GroupRules, JobRules, LogRules, KeepsRules}
 use Rattle.job_records.specs.Tables.{Tables}
 use Rattle.job_records.specs.Changes.{put_row, applied, applied_all, AreAllowed}
 use Rattle.job_records.proofs.RowLemmas.{rises-from_rising, rising-more, rising-push, rising-ends}
 use Rattle.job_records.proofs.PutLemmas.{put_behind, rising-put, rising-filter, row_with-put, length-put_present, length-put_absent, All-put}
-
--- a list has the id, or fewer rows than a limit
-abbrev pub HasPlace : {R : Type 0} → (R → ℕ) → ℕ → List R → ℕ → Type 0
-HasPlace id_of id rows most = (IsSome (row_with id_of id rows)) ⊎ (length rows < most)
 
 -- a row that is put where there is place for it leaves no more rows than the limit
 pub few-put : {R : Type 0} (id_of : R → ℕ) (low last most : ℕ) (row : R) (rows : List R) → IsRising id_of low rows last → length rows ≤ most → HasPlace id_of (id_of row) rows most → length (put_row id_of row rows) ≤ most

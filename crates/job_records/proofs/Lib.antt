@@ -4,3 +4,5 @@ pub mod OrderLemmas
 pub mod RunLemmas
 pub mod PutLemmas
 pub mod Keeping
+pub mod AllowLemmas
+pub mod RegistryLemmas

@@ -2,6 +2,7 @@
 //! ids, and how a row is found by its id.
 #![tactic(auto)]
 
+mod allow;
 mod apply;
 pub mod change;
 mod drops;

@@ -1,23 +1,27 @@
 -- Which single change keeps the rules, both ways.
-use Rattle.std.proofs.Common.{◌≡◌, ℕ, zero, suc, ◌+◌, ◌-◌, ◌<◌, ◌≤◌, ◌⊎◌, ⊎_elim, inl, inr, List, [], ◌∷◌, Bool, true, false, cond, eqb, Option, Some, None, IsSome, length, get_or, refl, sym, ap, ◌∙◌, subst, arith}
-use Rattle.std.specs.List.{All}
+use Rattle.std.proofs.Common.{◌≡◌, ℕ, zero, suc, ◌+◌, ◌-◌, ◌<◌, ◌≤◌, ◌⊎◌, ⊎_elim, inl, inr, List, [], ◌∷◌, Bool, true, false, cond, eqb, Option, Some, None, Ok, Err, IsSome, length, get_or, refl, sym, ap, ◌∙◌, subst, arith}
+use Rattle.std.specs.List.{All, list_any}
 use Rattle.std.specs.Prelude.{◌↔◌}
 use Rattle.std.proofs.lemmas.Bool.{cases_lt}
 use Rattle.std.proofs.lemmas.List.{get_or_default}
 use Rattle.std.proofs.lemmas.Bool.Decides.{nat_tests}
 use Rattle.job_records.specs.declared.limits.TheConstants.{MOST_GROUPS, MOST_JOBS}
-use Rattle.job_records.specs.declared.change.Change.TheVariants.{PutGroup, PutJob, PutLog, LastIds as SetLast}
+use Rattle.job_records.specs.declared.change.Change.TheVariants.{PutGroup, PutJob, PutLog, PutRegistry, LastIds as SetLast}
 use Rattle.job_records.specs.declared.group.Group.{Group}
 use Rattle.job_records.specs.declared.job.Job.{Job}
 use Rattle.job_records.specs.declared.last_ids.LastIds.{LastIds}
 use Rattle.job_records.specs.declared.log.Log.{Log}
+use Rattle.job_records.specs.declared.registry.RegistryRow.{RegistryRow}
 use Rattle.job_records.specs.Rows.{row_with, RisesFrom, IsRising}
-use Rattle.job_records.specs.Rules.{RunsByNext, HasItsSchedule, HasGroup, HasAddress, HasPlace, AreLast, GroupRules, JobRules, LogRules, KeepsRules}
+use Rattle.job_records.specs.Rules.{RunsByNext, HasItsSchedule, HasGroup, HasAddress, HasPlace, IsNamed, HasKeyPlace, AreLast, GroupRules, JobRules, LogRules, KeepsRules}
 use Rattle.job_records.specs.Tables.{Tables}
+use Rattle.job_records.specs.Order.{key_order, is_registered}
+use Rattle.job_records.specs.Seats.{IsSeat}
 use Rattle.job_records.specs.Changes.{put_row, applied}
 use Rattle.job_records.proofs.RowLemmas.{rises-from_rising, rising-ends, rises-apart}
 use Rattle.job_records.proofs.PutLemmas.{row_with-put, length-put_absent}
-use Rattle.job_records.proofs.Keeping.{row_has, keeps_group, keeps_job, keeps_log}
+use Rattle.job_records.proofs.Keeping.{row_has, keeps_group, keeps_job, keeps_log, keeps_registration}
+use Rattle.job_records.proofs.RegistryLemmas.{registration_put_only}
 
 same-id : (n : ℕ) → eqb n n ≡ true
 same-id n = grind (arith, nat_tests)
@@ -115,6 +119,19 @@ last_allowed t last h =
       log_ids = after.logs.last_id;
     })
 
+-- a registration may be put exactly where it is not empty and there is place for it
+pub registration_allowed : (t : Tables) (row : RegistryRow) → KeepsRules t → (IsNamed row × HasKeyPlace row t.registry) ↔ KeepsRules (applied t (PutRegistry row))
+registration_allowed t row h =
+    (λ fits. keeps_registration t row h fits.0 fits.1, λ after. registration_put_only row t.registry after.registry)
+
 -- what follows from each other, through a third
 pub both : {A B C : Type 0} → A ↔ B → B ↔ C → A ↔ C
 both f g = (λ a. g.0 (f.0 a), λ c. f.1 (g.1 c))
+
+-- where there is an equal registration there is one with its key and value
+pub found-registered : (key value : List ℕ) (rows : List RegistryRow) (at : ℕ) → IsSeat (key_order key value) rows (Ok at) → list_any (is_registered key value) rows ≡ true
+found-registered key value rows at seat = ?
+
+-- and where there is none there is none
+pub absent-registered : (key value : List ℕ) (rows : List RegistryRow) (at : ℕ) → IsSeat (key_order key value) rows (Err at) → list_any (is_registered key value) rows ≡ false
+absent-registered key value rows at seat = ?

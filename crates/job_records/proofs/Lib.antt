@@ -6,3 +6,4 @@ pub mod PutLemmas
 pub mod Keeping
 pub mod AllowLemmas
 pub mod RegistryLemmas
+pub mod KeyLemmas

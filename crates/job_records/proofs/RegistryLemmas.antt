@@ -70,7 +70,8 @@ any-greater order [] all = refl
 any-greater order (row ∷ rows) all =
     ap (λ o. is_eq o || list_any (λ r. is_eq (order r)) rows) (all 0 row (omega arith)) ∙ any-greater order rows (All-tail (λ r. order r ≡ Greater) row rows all)
 
-count-cons : {R : Type 0} (p : R → Bool) (row : R) (rows : List R) → count_by p (row ∷ rows) ≡ cond (p row) 1 0 + count_by p rows
+-- one row more in a count
+pub count-cons : {R : Type 0} (p : R → Bool) (row : R) (rows : List R) → count_by p (row ∷ rows) ≡ cond (p row) 1 0 + count_by p rows
 count-cons p row rows = sum_by-cons (λ r. cond (p r) 1 0) row rows
 
 -- one row more, which passes a test or not
@@ -103,7 +104,7 @@ same-step p order row first rows put Less e split agrees some ih =
     let rest : AsMany p rows put = ih (sym (ap (λ o. is_eq o || list_any (λ r. is_eq (order r)) rows) e) ∙ some) in
     record { all = omega (arith, rest.all); passed = omega (arith, rest.passed, count-cons p first put, count-cons p first rows) }
 same-step p order row first rows put Equal e split agrees some ih =
-    let same : cond (p first) 1 0 ≡ cond (p row) 1 0 = ap (λ (b : Bool). cond b 1 0) (agrees first e) in
+    let same : ◌≡◌ {A = ℕ} (cond (p first) 1 0) (cond (p row) 1 0) = ap (λ (b : Bool). cond b 1 0) (agrees first e) in
     record { all = refl; passed = omega (arith, same, count-cons p row rows, count-cons p first rows) }
 same-step p order row first rows put Greater e split agrees some ih =
     let none : list_any (λ r. is_eq (order r)) rows ≡ false =
@@ -153,12 +154,14 @@ few-of_key row rows key few fewer more = by (bytes_eq row.key key) refl
   where
     by : (b : Bool) → bytes_eq row.key key ≡ b → count_of_key key (put_registration row rows) ≤ MOST_OF_KEY
     by true is =
+        let passed : count_of_key key (put_registration row rows) ≡ count_of_key key rows + cond (bytes_eq row.key key) 1 0 = more.passed in
         let same : count_of_key row.key rows ≡ count_of_key key rows = ap (λ (k : List ℕ). count_of_key k rows) ((bytes_eq-Decides row.key key).0 is) in
-        let one : cond (bytes_eq row.key key) 1 0 ≡ 1 = ap (λ (c : Bool). cond c 1 0) is in
-        omega (arith, more.passed)
+        let one : ◌≡◌ {A = ℕ} (cond (bytes_eq row.key key) 1 0) 1 = ap (λ (c : Bool). cond c 1 0) is in
+        omega arith
     by false is =
-        let none : cond (bytes_eq row.key key) 1 0 ≡ 0 = ap (λ (c : Bool). cond c 1 0) is in
-        omega (arith, more.passed)
+        let passed : count_of_key key (put_registration row rows) ≡ count_of_key key rows + cond (bytes_eq row.key key) 1 0 = more.passed in
+        let none : ◌≡◌ {A = ℕ} (cond (bytes_eq row.key key) 1 0) 0 = ap (λ (c : Bool). cond c 1 0) is in
+        omega arith
 
 -- a registration may be put where it is not empty and there is place for it
 pub registration_put : (row : RegistryRow) (rows : List RegistryRow) → RegistryRules rows → IsNamed row → HasKeyPlace row rows → RegistryRules (put_registration row rows)
@@ -197,8 +200,9 @@ registration_put_only row rows after =
     by false none =
         let more : OneMore (λ r. bytes_eq r.key row.key) row rows (put_registration row rows) =
           more-put (λ (r : RegistryRow). bytes_eq r.key row.key) (key_order row.key row.value) row rows (any-registered row rows ∙ none) in
-        let one : cond (bytes_eq row.key row.key) 1 0 ≡ 1 = ap (λ (c : Bool). cond c 1 0) ((bytes_eq-Decides row.key row.key).1 refl) in
-        inr (omega (arith, more.all, after.few), omega (arith, more.passed, after.few_of_key row.key))
+        let one : ◌≡◌ {A = ℕ} (cond (bytes_eq row.key row.key) 1 0) 1 = ap (λ (c : Bool). cond c 1 0) ((bytes_eq-Decides row.key row.key).1 refl) in
+        let passed : count_of_key row.key (put_registration row rows) ≡ count_of_key row.key rows + cond (bytes_eq row.key row.key) 1 0 = more.passed in
+        inr (omega (arith, more.all, after.few), omega (arith, after.few_of_key row.key))
 
 -- registrations may be left out
 pub registration_filter : (test : RegistryRow → Bool) (rows : List RegistryRow) → RegistryRules rows → RegistryRules (filter test rows)

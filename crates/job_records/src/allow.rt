@@ -10,10 +10,12 @@ ghost use Rattle.job_records.specs.Changes.{applied};
 use super::change::Change;
 use super::group::Group;
 use super::job::Job;
+use super::keys::registration_fits;
 use super::last_ids::LastIds;
 use super::limits::{MOST_GROUPS, MOST_JOBS, SUCCESS};
 use super::log::Log;
 use super::records::Records;
+use super::registry::RegistryRow;
 use super::row::{Row, has_row};
 use cron_schedule::{ParseFault, Schedule};
 use job_values::NoMemory;
@@ -117,5 +119,28 @@ impl Records {
         ensures { IsTrue result ↔ KeepsRules (applied self.now.kept (change.LastIds last)) }
     {
         last_fits(self.groups.as_slice(), self.jobs.as_slice(), self.logs.as_slice(), last)
+    }
+
+    fn allows_registration(&self, row: &RegistryRow) -> bool
+        ensures { IsTrue result ↔ KeepsRules (applied self.now.kept (change.PutRegistry row.now)) }
+    {
+        registration_fits(self.registry.as_slice(), row)
+    }
+
+    /// Whether the rows keep their rules after this change. A drop always does.
+    pub fn allows(&self, alloc: Global, change: &Change) -> Result<bool, NoMemory>
+        ensures { IfOk result (λ allowed. IsTrue allowed ↔ KeepsRules (applied self.now.kept change.now)) }
+    {
+        let _last = &self.last;
+        match change {
+            Change::PutGroup(group) => Ok(self.allows_group(group)),
+            Change::PutJob(job) => self.allows_job(alloc, job),
+            Change::DropJob(_) => Ok(true),
+            Change::PutLog(log) => Ok(self.allows_log(log)),
+            Change::DropLog(_) => Ok(true),
+            Change::PutRegistry(row) => Ok(self.allows_registration(row)),
+            Change::DropRegistry { key: _, value: _ } => Ok(true),
+            Change::LastIds(last) => Ok(self.allows_last(*last)),
+        }
     }
 }

@@ -9,6 +9,7 @@ mod drops;
 mod edits;
 pub mod group;
 pub mod job;
+mod keys;
 pub mod last_ids;
 pub mod limits;
 pub mod log;

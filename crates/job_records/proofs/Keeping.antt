@@ -1,5 +1,5 @@
 -- Which changes keep the rules.
-use Rattle.std.proofs.Common.{◌≡◌, ℕ, zero, suc, ◌+◌, ◌<◌, ◌≤◌, ◌⊎◌, inl, inr, List, [], ◌∷◌, ◌++◌, Bool, true, false, cond, not, eqb, Option, Some, None, IsSome, is_some, length, get_or, map, refl, sym, ap, ◌∙◌, subst, ⊎_elim, arith}
+use Rattle.std.proofs.Common.{◌≡◌, ℕ, suc, ◌<◌, ◌≤◌, List, [], ◌∷◌, ◌++◌, Bool, true, false, cond, not, eqb, Option, Some, None, IsSome, length, get_or, map, refl, sym, ap, ◌∙◌, subst, ⊎_elim, arith}
 use Rattle.std.specs.List.{filter, find, All}
 use Rattle.std.proofs.lemmas.List.{append-nil, append_assoc}
 use Rattle.std.proofs.lemmas.List.Elements.{All-filter}
@@ -16,7 +16,7 @@ use Rattle.job_records.specs.declared.registry.RegistryRow.{RegistryRow}
 use Rattle.job_records.specs.Rows.{row_with, IsRising}
 use Rattle.job_records.specs.Order.{id_order, is_registered}
 pub use Rattle.job_records.specs.Rules.{HasPlace}
-use Rattle.job_records.specs.Rules.{IsNamed, HasKeyPlace, RunsByNext, HasItsSchedule, HasGroup, HasAddress, GroupRules, JobRules, LogRules, KeepsRules}
+use Rattle.job_records.specs.Rules.{IsNamed, HasKeyPlace, RunsByNext, HasItsSchedule, HasGroup, HasAddress, JobRules, LogRules, KeepsRules}
 use Rattle.job_records.specs.Tables.{Tables}
 use Rattle.job_records.specs.Changes.{put_row, applied, applied_all, AreAllowed}
 use Rattle.job_records.proofs.RowLemmas.{rises-from_rising, rising-more, rising-push, rising-ends}

@@ -1,5 +1,5 @@
 -- Lemmas on the registrations of one key, which stand together.
-use Rattle.std.proofs.Common.{◌≡◌, ℕ, zero, suc, ◌+◌, ◌-◌, ◌<◌, ◌≤◌, ⊎_elim, List, [], ◌∷◌, Bool, true, false, cond, length, get_or, refl, sym, ap, ◌∙◌, subst, arith}
+use Rattle.std.proofs.Common.{◌≡◌, ℕ, zero, suc, ◌+◌, ◌<◌, ◌≤◌, ⊎_elim, List, [], ◌∷◌, Bool, true, false, cond, length, get_or, refl, sym, ap, ◌∙◌, arith}
 use Rattle.std.specs.declared.cmp.Ordering.{Ordering}
 use Rattle.std.specs.declared.cmp.Ordering.TheVariants.{Less, Equal, Greater}
 use Rattle.std.specs.Cmp.{IsTotalOrder}
@@ -93,12 +93,13 @@ pub count-between : (key : List ℕ) (rows : List RegistryRow) (start end : ℕ)
     → IsPartitionPoint (λ row. is_le (by_key key row) ≡ true) (λ row. is_le (by_key key row) ≡ false) rows end
     → (start ≤ end) × (count_of_key key rows + start ≡ end)
 count-between key rows start end short within first last =
-    let ordered : start ≤ end = in_order rows start end within short first last in
-    (ordered,
-    count-range (λ (row : RegistryRow). bytes_eq row.key key) rows start end ordered within
-    (λ k d above below. keyed key (get_or rows k d) ∙ lt-not_eq (by_key key (get_or rows k d)) (first.0 k d above below))
-    (λ k d above below. keyed key (get_or rows k d) ∙ eq-between (by_key key (get_or rows k d)) (first.1 k d above (omega arith)) (last.0 k d (omega arith) below))
-    (λ k d above below. keyed key (get_or rows k d) ∙ gt-not_eq (by_key key (get_or rows k d)) (last.1 k d above below)))
+    let ordered : start ≤ end = in_order rows start end within short first last in (
+      ordered,
+      count-range (λ (row : RegistryRow). bytes_eq row.key key) rows start end ordered within
+          (λ k d above below. keyed key (get_or rows k d) ∙ lt-not_eq (by_key key (get_or rows k d)) (first.0 k d above below))
+          (λ k d above below. keyed key (get_or rows k d) ∙ eq-between (by_key key (get_or rows k d)) (first.1 k d above (omega arith)) (last.0 k d (omega arith) below))
+          (λ k d above below. keyed key (get_or rows k d) ∙ gt-not_eq (by_key key (get_or rows k d)) (last.1 k d above below)),
+    )
   where
     in_order : (xs : List RegistryRow) (m n : ℕ) → n ≤ length xs → m ≤ length xs
         → IsPartitionPoint (λ row. is_lt (by_key key row) ≡ true) (λ row. is_lt (by_key key row) ≡ false) xs m

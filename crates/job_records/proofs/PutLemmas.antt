@@ -1,16 +1,15 @@
 -- Lemmas on a row put among rows in order of their ids, and on rows left out.
-use Rattle.std.proofs.Common.{◌≡◌, ℕ, zero, suc, ◌+◌, ◌<◌, ◌≤◌, ◌⊎◌, inl, inr, List, [], ◌∷◌, ◌++◌, Bool, true, false, cond, not, eqb, Option, Some, None, IsSome, length, refl, sym, ap, ◌∙◌, subst, ⊎_elim, arith}
+use Rattle.std.proofs.Common.{◌≡◌, ℕ, ◌+◌, ◌<◌, ◌≤◌, List, [], ◌∷◌, ◌++◌, Bool, true, false, cond, eqb, Some, None, length, refl, sym, ap, ◌∙◌, subst, ⊎_elim, arith}
 use Rattle.std.specs.declared.cmp.Ordering.{Ordering}
 use Rattle.std.specs.declared.cmp.Ordering.TheVariants.{Less, Equal, Greater}
-use Rattle.std.specs.List.{filter, find, All}
+use Rattle.std.specs.List.{filter, All}
 use Rattle.std.specs.Ordering.{nat_cmp, match_ordering}
 use Rattle.std.proofs.lemmas.Bool.{cases_lt}
 use Rattle.std.proofs.lemmas.Bool.Decides.{nat_tests}
 use Rattle.std.proofs.lemmas.List.{length-map}
 use Rattle.std.proofs.lemmas.List.Elements.{All-cons, All-tail}
 use Rattle.job_records.specs.Rows.{row_with, changed, RisesFrom, IsRising}
-use Rattle.job_records.specs.Order.{id_order}
-use Rattle.job_records.specs.Changes.{put_by, put_row, without}
+use Rattle.job_records.specs.Changes.{put_by, put_row}
 use Rattle.job_records.proofs.RowLemmas.{changed-none, rising-ends, find-skip, find-here}
 use Rattle.job_records.proofs.OrderLemmas.{less-nat, greater-nat}
 

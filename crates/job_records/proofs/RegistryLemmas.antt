@@ -1,5 +1,5 @@
 -- Lemmas on the registrations: one put among them, some left out, and how many a key has.
-use Rattle.std.proofs.Common.{◌≡◌, ℕ, zero, suc, ◌+◌, ◌-◌, ◌<◌, ◌≤◌, ◌⊎◌, inl, inr, ⊎_elim, List, [], ◌∷◌, Bool, true, false, cond, not, ◌&&◌, ◌||◌, length, get_or, refl, sym, ap, ◌∙◌, subst, arith}
+use Rattle.std.proofs.Common.{◌≡◌, ℕ, zero, suc, ◌+◌, ◌<◌, ◌≤◌, inl, inr, ⊎_elim, List, [], ◌∷◌, Bool, true, false, cond, not, ◌&&◌, ◌||◌, length, get_or, refl, sym, ap, ◌∙◌, arith}
 use Rattle.std.specs.declared.cmp.Ordering.{Ordering}
 use Rattle.std.specs.declared.cmp.Ordering.TheVariants.{Less, Equal, Greater}
 use Rattle.std.specs.List.{All, AllPairs, count_by, filter, list_any}
@@ -108,7 +108,7 @@ same-step p order row first rows put Equal e split agrees some ih =
     record { all = refl; passed = omega (arith, same, count-cons p row rows, count-cons p first rows) }
 same-step p order row first rows put Greater e split agrees some ih =
     let none : list_any (λ r. is_eq (order r)) rows ≡ false =
-      any-greater order rows (λ k d lt. ⊎_elim (λ (less : order first ≡ Less). cc) (λ greater. greater) (split 0 (suc k) d (omega arith) (omega arith))) in
+    any-greater order rows (λ k d lt. ⊎_elim (λ (less : order first ≡ Less). cc) (λ greater. greater) (split 0 (suc k) d (omega arith) (omega arith))) in
     absurd (let never : true ≡ false = sym some ∙ ap (λ o. is_eq o || list_any (λ r. is_eq (order r)) rows) e ∙ none in cc)
 
 -- a row that is put in place of an equal one leaves as many
@@ -123,8 +123,9 @@ any-agree p q [] agree = refl
 any-agree p q (row ∷ rows) agree =
     ap (λ b. b || list_any p rows) (agree row) ∙ ap (λ b. q row || b) (any-agree p q rows agree)
 
-any-registered : (row : RegistryRow) (rows : List RegistryRow) → list_any (λ r. is_eq (key_order row.key row.value r)) rows ≡ list_any (is_registered row.key row.value) rows
-any-registered row rows = any-agree (λ r. is_eq (key_order row.key row.value r)) (is_registered row.key row.value) rows (registered-order row.key row.value)
+-- whether one is equal to a key and a value is whether one has them
+pub any-registered : (key value : List ℕ) (rows : List RegistryRow) → list_any (λ r. is_eq (key_order key value r)) rows ≡ list_any (is_registered key value) rows
+any-registered key value rows = any-agree (λ r. is_eq (key_order key value r)) (is_registered key value) rows (registered-order key value)
 
 and-first : (a b : Bool) → (a && b) ≡ true → a ≡ true
 and-first true b h = refl
@@ -171,7 +172,7 @@ registration_put row rows h named place =
     by : (b : Bool) → list_any (λ r. is_eq (key_order row.key row.value r)) rows ≡ b → RegistryRules (put_registration row rows)
     by true some =
         let same : (key : List ℕ) → AsMany (λ r. bytes_eq r.key key) rows (put_registration row rows) =
-          λ key. same-put (λ (r : RegistryRow). bytes_eq r.key key) (key_order row.key row.value) row rows (split-by_key row.key row.value rows h.rising) (same-keys row key) some in
+        λ key. same-put (λ (r : RegistryRow). bytes_eq r.key key) (key_order row.key row.value) row rows (split-by_key row.key row.value rows h.rising) (same-keys row key) some in
         record {
           rising = registry-put_rises row rows h.rising;
           named = All-put IsNamed (key_order row.key row.value) row rows h.named named;
@@ -180,8 +181,8 @@ registration_put row rows h named place =
         }
     by false none =
         let more : (key : List ℕ) → OneMore (λ r. bytes_eq r.key key) row rows (put_registration row rows) =
-          λ key. more-put (λ (r : RegistryRow). bytes_eq r.key key) (key_order row.key row.value) row rows none in
-        ⊎_elim (λ (there : list_any (is_registered row.key row.value) rows ≡ true). absurd (let never : true ≡ false = sym there ∙ sym (any-registered row rows) ∙ none in cc))
+        λ key. more-put (λ (r : RegistryRow). bytes_eq r.key key) (key_order row.key row.value) row rows none in
+        ⊎_elim (λ (there : list_any (is_registered row.key row.value) rows ≡ true). absurd (let never : true ≡ false = sym there ∙ sym (any-registered row.key row.value rows) ∙ none in cc))
         (λ (fewer : (length rows < MOST_REGISTRATIONS) × (count_of_key row.key rows < MOST_OF_KEY)). record {
           rising = registry-put_rises row rows h.rising;
           named = All-put IsNamed (key_order row.key row.value) row rows h.named named;
@@ -199,7 +200,7 @@ registration_put_only row rows after =
     by true some = inl some
     by false none =
         let more : OneMore (λ r. bytes_eq r.key row.key) row rows (put_registration row rows) =
-          more-put (λ (r : RegistryRow). bytes_eq r.key row.key) (key_order row.key row.value) row rows (any-registered row rows ∙ none) in
+        more-put (λ (r : RegistryRow). bytes_eq r.key row.key) (key_order row.key row.value) row rows (any-registered row.key row.value rows ∙ none) in
         let one : ◌≡◌ {A = ℕ} (cond (bytes_eq row.key row.key) 1 0) 1 = ap (λ (c : Bool). cond c 1 0) ((bytes_eq-Decides row.key row.key).1 refl) in
         let passed : count_of_key row.key (put_registration row rows) ≡ count_of_key row.key rows + cond (bytes_eq row.key row.key) 1 0 = more.passed in
         inr (omega (arith, more.all, after.few), omega (arith, after.few_of_key row.key))

@@ -1,6 +1,6 @@
 -- Lemmas on runs of drops, and on changes one after another.
-use Rattle.std.proofs.Common.{◌≡◌, ℕ, zero, suc, ◌+◌, ◌<◌, ◌≤◌, List, [], ◌∷◌, ◌++◌, Bool, true, false, cond, not, ◌&&◌, eqb, Option, Some, None, is_some, length, get_or, take, drop, refl, sym, ap, ◌∙◌, subst, arith}
-use Rattle.std.specs.List.{filter, find, count_by, AllPass}
+use Rattle.std.proofs.Common.{◌≡◌, ℕ, suc, ◌+◌, List, [], ◌∷◌, ◌++◌, Bool, true, false, cond, not, ◌&&◌, eqb, Option, Some, is_some, take, drop, refl, sym, ap, ◌∙◌, arith}
+use Rattle.std.specs.List.{filter, count_by, AllPass}
 use Rattle.std.proofs.lemmas.Bool.Decides.{nat_tests}
 use Rattle.std.proofs.lemmas.List.{take-append-drop}
 use Rattle.std.proofs.lemmas.List.Elements.{filter_agree}
@@ -12,7 +12,6 @@ use Rattle.job_records.specs.declared.job.Job.{Job}
 use Rattle.job_records.specs.declared.log.Log.{Log}
 use Rattle.job_records.specs.Room.{Room, HasRoom, KeepsRoom, puts_group, puts_job, puts_log, puts_registration}
 use Rattle.job_records.specs.Tables.{Tables}
-use Rattle.job_records.specs.Rules.{KeepsRules}
 use Rattle.job_records.specs.Rows.{row_with}
 use Rattle.job_records.specs.Changes.{without, applied, applied_all, AreAllowed}
 use Rattle.job_records.specs.Runs.{dropped_id, is_drop_of, undropped}

@@ -103,7 +103,12 @@ impl Records {
     fn allows_job(&self, alloc: Global, job: &Job) -> Result<bool, NoMemory>
         ensures { IfOk result (λ allowed. IsTrue allowed ↔ KeepsRules (applied self.now.kept (change.PutJob job.now))) }
     {
-        if !job_fits(self.groups.as_slice(), self.jobs.as_slice(), self.last.job, job) {
+        if !job_fits(
+            self.groups.as_slice(),
+            self.jobs.as_slice(),
+            self.last.job,
+            job,
+        ) {
             return Ok(false);
         }
         has_its_schedule(alloc, job)
@@ -118,7 +123,12 @@ impl Records {
     fn allows_last(&self, last: LastIds) -> bool
         ensures { IsTrue result ↔ KeepsRules (applied self.now.kept (change.LastIds last)) }
     {
-        last_fits(self.groups.as_slice(), self.jobs.as_slice(), self.logs.as_slice(), last)
+        last_fits(
+            self.groups.as_slice(),
+            self.jobs.as_slice(),
+            self.logs.as_slice(),
+            last,
+        )
     }
 
     fn allows_registration(&self, row: &RegistryRow) -> bool
@@ -131,7 +141,7 @@ impl Records {
     pub fn allows(&self, alloc: Global, change: &Change) -> Result<bool, NoMemory>
         ensures { IfOk result (λ allowed. IsTrue allowed ↔ KeepsRules (applied self.now.kept change.now)) }
     {
-        let _last = &self.last;
+        let _ = &self.last;
         match change {
             Change::PutGroup(group) => Ok(self.allows_group(group)),
             Change::PutJob(job) => self.allows_job(alloc, job),

@@ -10,10 +10,11 @@ returns-in-Some g c =
     let end = c.in-Some.row.now in
     let some : 0 < length rows = c.in-Some.ensures.item.3.0 in
     let is : end ≡ get_or rows (length rows - 1) end = c.in-Some.ensures.item.1 in
-    let id : c.id_number.result ≡ id_of end = c.id_number.ensures in
-    (λ t.
-    let within : c.id_number.result ≤ c.args.last = leb-true c.id_number.result c.args.last t in
-    rising-last id_of c.args.last rows end c.requires is (omega arith),
-    λ rising.
-    let within : id_of (get_or rows (length rows - 1) end) ≤ c.args.last = rising-all id_of 0 c.args.last rows rising (length rows - 1) end (omega arith) in
-    le-leb c.id_number.result c.args.last (omega (arith, ap id_of is)))
+    let id : c.id_number.result ≡ id_of end = c.id_number.ensures in (
+      λ t.
+          let within : c.id_number.result ≤ c.args.last = leb-true c.id_number.result c.args.last t in
+          rising-last id_of c.args.last rows end c.requires is (omega arith),
+      λ rising.
+          let within : id_of (get_or rows (length rows - 1) end) ≤ c.args.last = rising-all id_of 0 c.args.last rows rising (length rows - 1) end (omega arith) in
+          le-leb c.id_number.result c.args.last (omega (arith, ap id_of is)),
+    )

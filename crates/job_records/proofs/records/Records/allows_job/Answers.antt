@@ -1,6 +1,5 @@
 use Rattle.std.proofs.Common.{◌≡◌, true, false, sym, ◌∙◌}
 use Rattle.std.proofs.lemmas.Result.{IfOk-weaker}
-use Rattle.job_records.specs.Rules.{HasItsSchedule}
 use Rattle.job_records.proofs.RowLemmas.{rises-from_rising}
 use Rattle.job_records.proofs.AllowLemmas.{both, job_allowed}
 use Rattle.job_records.proofs.records.Records.allows_job.Goals as goal
@@ -14,11 +13,12 @@ job_fits-requires-clause-jobs c = rw c.as_slice-2.ensures.value (rises-from_risi
 pub returns-then-not-job_fits : goal.returns-then-not-job_fits
 returns-then-not-job_fits c =
     let fits = rw (c.as_slice.ensures.value, c.as_slice-2.ensures.value) at c.job_fits.ensures.fits in
-    rw (← c.self.view_is)
-    (λ (t : false ≡ true). absurd (cc),
-    λ after.
-    let all = (job_allowed _ c.args.job.now c.self.invariant c.job_fits.ensures.least).1 after in
-    sym c.if-not-job_fits.true ∙ fits.1 (all.0, all.1, all.2, all.3))
+    rw (← c.self.view_is) (
+      λ (t : false ≡ true). absurd (cc),
+      λ after.
+          let all = (job_allowed _ c.args.job.now c.self.invariant c.job_fits.ensures.least).1 after in
+          sym c.if-not-job_fits.true ∙ fits.1 (all.0, all.1, all.2, all.3),
+    )
 
 pub returns : goal.returns
 returns c =

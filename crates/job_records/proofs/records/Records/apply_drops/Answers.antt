@@ -1,6 +1,5 @@
-use Rattle.std.proofs.Common.{◌≡◌, ap, sym, subst}
+use Rattle.std.proofs.Common.{ap, subst}
 use Rattle.job_records.specs.Rules.{KeepsRules}
-use Rattle.job_records.specs.Tables.{Tables}
 use Rattle.job_records.proofs.Keeping.{all_keep}
 use Rattle.job_records.proofs.RunLemmas.{pass-jobs, pass-logs}
 use Rattle.job_records.proofs.records.Records.apply_drops.Goals as goal

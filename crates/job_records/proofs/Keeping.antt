@@ -219,3 +219,10 @@ put_logs_allowed t low high (log ∷ logs) h rises more within all =
           (subst (λ ls. IsRising (λ (l : Log). l.id) 0 ls log.id) (sym behind) (rising-push (λ (l : Log). l.id) 0 low t.logs log rises above))
           more.1 within (λ k d lt. all (suc k) d (omega arith)),
     )
+
+-- drops of logs are allowed
+pub drop_logs_allowed : (t : Tables) (ids : List ℕ) → KeepsRules t → AreAllowed t (map DropLog ids)
+drop_logs_allowed t [] h = tt
+drop_logs_allowed t (id ∷ ids) h =
+    let kept : KeepsRules (applied t (DropLog id)) = keeps_drop_log t id h in
+    (kept, drop_logs_allowed (applied t (DropLog id)) ids kept)

@@ -28,3 +28,6 @@ pub use log::Log;
 pub use records::Records;
 pub use registry::RegistryRow;
 pub use row::{Row, place_of};
+
+#[cfg(test)]
+mod tests;

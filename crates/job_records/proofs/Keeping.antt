@@ -1,5 +1,5 @@
 -- Which changes keep the rules.
-use Rattle.std.proofs.Common.{◌≡◌, ℕ, zero, suc, ◌+◌, ◌<◌, ◌≤◌, ◌⊎◌, inl, inr, List, [], ◌∷◌, ◌++◌, Bool, true, false, cond, not, eqb, Option, Some, None, IsSome, is_some, length, get_or, map, refl, sym, ap, ◌∙◌, subst, ⊎_elim, arith}
+use Rattle.std.proofs.Common.{◌≡◌, ℕ, suc, ◌<◌, ◌≤◌, List, [], ◌∷◌, ◌++◌, Bool, true, false, cond, not, eqb, Option, Some, None, IsSome, length, get_or, map, refl, sym, ap, ◌∙◌, subst, ⊎_elim, arith}
 use Rattle.std.specs.List.{filter, find, All}
 use Rattle.std.proofs.lemmas.List.{append-nil, append_assoc}
 use Rattle.std.proofs.lemmas.List.Elements.{All-filter}
@@ -7,22 +7,21 @@ use Rattle.std.proofs.lemmas.List.Sums.{length-filter, count_by-le-length}
 use Rattle.job_values.specs.declared.numbers.TheConstants.{LAST_JOB_ID, LAST_LOG_ID}
 use Rattle.job_records.specs.declared.limits.TheConstants.{MOST_GROUPS, MOST_JOBS}
 use Rattle.job_records.specs.declared.change.Change.{Change}
-use Rattle.job_records.specs.declared.change.Change.TheVariants.{PutGroup, PutJob, DropJob, PutLog, DropLog, LastIds as SetLast}
+use Rattle.job_records.specs.declared.change.Change.TheVariants.{PutGroup, PutJob, DropJob, PutLog, DropLog, PutRegistry, DropRegistry, LastIds as SetLast}
 use Rattle.job_records.specs.declared.group.Group.{Group}
 use Rattle.job_records.specs.declared.job.Job.{Job}
 use Rattle.job_records.specs.declared.last_ids.LastIds.{LastIds}
 use Rattle.job_records.specs.declared.log.Log.{Log}
+use Rattle.job_records.specs.declared.registry.RegistryRow.{RegistryRow}
 use Rattle.job_records.specs.Rows.{row_with, IsRising}
-use Rattle.job_records.specs.Order.{id_order}
-use Rattle.job_records.specs.Rules.{RunsByNext, HasItsSchedule, HasGroup, HasAddress, GroupRules, JobRules, LogRules, KeepsRules}
+use Rattle.job_records.specs.Order.{id_order, is_registered}
+pub use Rattle.job_records.specs.Rules.{HasPlace}
+use Rattle.job_records.specs.Rules.{IsNamed, HasKeyPlace, RunsByNext, HasItsSchedule, HasGroup, HasAddress, JobRules, LogRules, KeepsRules}
 use Rattle.job_records.specs.Tables.{Tables}
 use Rattle.job_records.specs.Changes.{put_row, applied, applied_all, AreAllowed}
 use Rattle.job_records.proofs.RowLemmas.{rises-from_rising, rising-more, rising-push, rising-ends}
 use Rattle.job_records.proofs.PutLemmas.{put_behind, rising-put, rising-filter, row_with-put, length-put_present, length-put_absent, All-put}
-
--- a list has the id, or fewer rows than a limit
-abbrev pub HasPlace : {R : Type 0} → (R → ℕ) → ℕ → List R → ℕ → Type 0
-HasPlace id_of id rows most = (IsSome (row_with id_of id rows)) ⊎ (length rows < most)
+use Rattle.job_records.proofs.RegistryLemmas.{registration_put, registration_filter}
 
 -- a row that is put where there is place for it leaves no more rows than the limit
 pub few-put : {R : Type 0} (id_of : R → ℕ) (low last most : ℕ) (row : R) (rows : List R) → IsRising id_of low rows last → length rows ≤ most → HasPlace id_of (id_of row) rows most → length (put_row id_of row rows) ≤ most
@@ -150,6 +149,16 @@ keeps_drop_log t id h =
       registry = h.registry;
     }
 
+-- a registration that is not empty, where there is place
+pub keeps_registration : (t : Tables) (row : RegistryRow) → KeepsRules t → IsNamed row → HasKeyPlace row t.registry → KeepsRules (applied t (PutRegistry row))
+keeps_registration t row h named place =
+    record { groups = h.groups; jobs = h.jobs; logs = h.logs; registry = registration_put row t.registry h.registry named place }
+
+-- a registration that is dropped
+pub keeps_drop_registration : (t : Tables) (key value : List ℕ) → KeepsRules t → KeepsRules (applied t (DropRegistry key value))
+keeps_drop_registration t key value h =
+    record { groups = h.groups; jobs = h.jobs; logs = h.logs; registry = registration_filter (λ (row : RegistryRow). not (is_registered key value row)) t.registry h.registry }
+
 -- changes after changes are the changes of both lists
 pub applied_append : (t : Tables) (cs ds : List Change) → applied_all t (cs ++ ds) ≡ applied_all (applied_all t cs) ds
 applied_append t [] ds = refl
@@ -210,3 +219,10 @@ put_logs_allowed t low high (log ∷ logs) h rises more within all =
           (subst (λ ls. IsRising (λ (l : Log). l.id) 0 ls log.id) (sym behind) (rising-push (λ (l : Log). l.id) 0 low t.logs log rises above))
           more.1 within (λ k d lt. all (suc k) d (omega arith)),
     )
+
+-- drops of logs are allowed
+pub drop_logs_allowed : (t : Tables) (ids : List ℕ) → KeepsRules t → AreAllowed t (map DropLog ids)
+drop_logs_allowed t [] h = tt
+drop_logs_allowed t (id ∷ ids) h =
+    let kept : KeepsRules (applied t (DropLog id)) = keeps_drop_log t id h in
+    (kept, drop_logs_allowed (applied t (DropLog id)) ids kept)

@@ -4,3 +4,6 @@ pub mod OrderLemmas
 pub mod RunLemmas
 pub mod PutLemmas
 pub mod Keeping
+pub mod AllowLemmas
+pub mod RegistryLemmas
+pub mod KeyLemmas

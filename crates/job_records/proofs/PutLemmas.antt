@@ -1,17 +1,16 @@
 -- Lemmas on a row put among rows in order of their ids, and on rows left out.
-use Rattle.std.proofs.Common.{◌≡◌, ℕ, zero, suc, ◌+◌, ◌<◌, ◌≤◌, ◌⊎◌, inl, inr, List, [], ◌∷◌, ◌++◌, Bool, true, false, cond, not, eqb, Option, Some, None, IsSome, length, refl, sym, ap, ◌∙◌, subst, ⊎_elim, arith}
+use Rattle.std.proofs.Common.{◌≡◌, ℕ, ◌+◌, ◌<◌, ◌≤◌, List, [], ◌∷◌, ◌++◌, Bool, true, false, cond, eqb, Some, None, length, refl, sym, ap, ◌∙◌, subst, ⊎_elim, arith}
 use Rattle.std.specs.declared.cmp.Ordering.{Ordering}
 use Rattle.std.specs.declared.cmp.Ordering.TheVariants.{Less, Equal, Greater}
-use Rattle.std.specs.List.{filter, find, All}
+use Rattle.std.specs.List.{filter, All}
 use Rattle.std.specs.Ordering.{nat_cmp, match_ordering}
 use Rattle.std.proofs.lemmas.Bool.{cases_lt}
 use Rattle.std.proofs.lemmas.Bool.Decides.{nat_tests}
 use Rattle.std.proofs.lemmas.List.{length-map}
 use Rattle.std.proofs.lemmas.List.Elements.{All-cons, All-tail}
 use Rattle.job_records.specs.Rows.{row_with, changed, RisesFrom, IsRising}
-use Rattle.job_records.specs.Order.{id_order}
-use Rattle.job_records.specs.Changes.{put_by, put_row, without}
-use Rattle.job_records.proofs.RowLemmas.{changed-none, rising-ends}
+use Rattle.job_records.specs.Changes.{put_by, put_row}
+use Rattle.job_records.proofs.RowLemmas.{changed-none, rising-ends, find-skip, find-here}
 use Rattle.job_records.proofs.OrderLemmas.{less-nat, greater-nat}
 
 equal-nat : (m n : ℕ) → m ≡ n → nat_cmp m n ≡ Equal
@@ -40,12 +39,6 @@ put-greater : {R : Type 0} (id_of : R → ℕ) (row first : R) (rows : List R) �
 put-greater id_of row first rows h =
     ap (λ o. match_ordering o (first ∷ put_row id_of row rows) (row ∷ rows) (row ∷ first ∷ rows)) (greater-nat (id_of first) (id_of row) h)
 
-find-skip : {R : Type 0} (id_of : R → ℕ) (id : ℕ) (row : R) (rows : List R) → eqb (id_of row) id ≡ false → row_with id_of id (row ∷ rows) ≡ row_with id_of id rows
-find-skip id_of id row rows e = ap (λ b. cond b (Some row) (row_with id_of id rows)) e
-
-find-here : {R : Type 0} (id_of : R → ℕ) (id : ℕ) (row : R) (rows : List R) → eqb (id_of row) id ≡ true → row_with id_of id (row ∷ rows) ≡ Some row
-find-here id_of id row rows e = ap (λ b. cond b (Some row) (row_with id_of id rows)) e
-
 -- a row with an id above all others goes behind them
 pub put_behind : {R : Type 0} (id_of : R → ℕ) (low last : ℕ) (row : R) (rows : List R) → IsRising id_of low rows last → last < id_of row → put_row id_of row rows ≡ rows ++ row ∷ []
 put_behind id_of low last row [] h above = refl
@@ -58,7 +51,7 @@ pub absent-low : {R : Type 0} (id_of : R → ℕ) (low id : ℕ) (rows : List R)
 absent-low id_of low id [] h below = refl
 absent-low id_of low id (row ∷ rows) h below =
     let above : low < id_of row = h.0 in
-    find-skip id_of id row rows (test-false (id_of row) id (λ e. omega arith)) ∙ absent-low id_of (id_of row) id rows h.1 (omega arith)
+    find-skip (λ r. eqb (id_of r) id) row rows (test-false (id_of row) id (λ e. omega arith)) ∙ absent-low id_of (id_of row) id rows h.1 (omega arith)
 
 -- a row with an id that is there takes its place
 pub put_present : {R : Type 0} (id_of : R → ℕ) (low : ℕ) (row found : R) (rows : List R) → RisesFrom id_of low rows → row_with id_of (id_of row) rows ≡ Some found → put_row id_of row rows ≡ changed id_of (id_of row) (λ _. row) rows
@@ -70,7 +63,7 @@ put_present id_of low row found (first ∷ rows) h is =
     (λ less.
     let test : eqb (id_of first) (id_of row) ≡ false = test-false (id_of first) (id_of row) (λ e. omega arith) in
     put-less id_of row first rows less
-    ∙ ap (λ xs. first ∷ xs) (put_present id_of (id_of first) row found rows h.1 (sym (find-skip id_of (id_of row) first rows test) ∙ is))
+    ∙ ap (λ xs. first ∷ xs) (put_present id_of (id_of first) row found rows h.1 (sym (find-skip (λ r. eqb (id_of r) (id_of row)) first rows test) ∙ is))
     ∙ sym (skip false test))
     (λ equal.
     put-equal id_of row first rows equal
@@ -78,7 +71,7 @@ put_present id_of low row found (first ∷ rows) h is =
     ∙ sym (skip true (test-true (id_of first) (id_of row) equal)))
     (λ greater.
     let test : eqb (id_of first) (id_of row) ≡ false = test-false (id_of first) (id_of row) (λ e. omega arith) in
-    let none : row_with id_of (id_of row) (first ∷ rows) ≡ None = find-skip id_of (id_of row) first rows test ∙ absent-low id_of (id_of first) (id_of row) rows h.1 (omega arith) in
+    let none : row_with id_of (id_of row) (first ∷ rows) ≡ None = find-skip (λ r. eqb (id_of r) (id_of row)) first rows test ∙ absent-low id_of (id_of first) (id_of row) rows h.1 (omega arith) in
     cc)
 
 -- the ids still rise with a row put among them
@@ -142,9 +135,9 @@ length-put_absent id_of row [] is = refl
 length-put_absent id_of row (first ∷ rows) is =
     by_cmp (id_of first) (id_of row)
     (λ less.
-    let rest : length (put_row id_of row rows) ≡ length rows + 1 = length-put_absent id_of row rows (sym (find-skip id_of (id_of row) first rows (test-false (id_of first) (id_of row) (λ e. omega arith))) ∙ is) in
+    let rest : length (put_row id_of row rows) ≡ length rows + 1 = length-put_absent id_of row rows (sym (find-skip (λ r. eqb (id_of r) (id_of row)) first rows (test-false (id_of first) (id_of row) (λ e. omega arith))) ∙ is) in
     ap length (put-less id_of row first rows less) ∙ omega arith)
-    (λ equal. let here : row_with id_of (id_of row) (first ∷ rows) ≡ Some first = find-here id_of (id_of row) first rows (test-true (id_of first) (id_of row) equal) in cc)
+    (λ equal. let here : row_with id_of (id_of row) (first ∷ rows) ≡ Some first = find-here (λ r. eqb (id_of r) (id_of row)) first rows (test-true (id_of first) (id_of row) equal) in cc)
     (λ greater. ap length (put-greater id_of row first rows greater) ∙ omega arith)
 
 -- what is true of each row and of one that is put is true of all

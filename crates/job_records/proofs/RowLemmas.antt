@@ -1,5 +1,5 @@
 -- Lemmas on rows in order of their ids.
-use Rattle.std.proofs.Common.{◌≡◌, ℕ, zero, suc, ◌+◌, ◌-◌, ◌<◌, ◌≤◌, List, [], ◌∷◌, ◌++◌, Bool, true, false, cond, eqb, Option, Some, None, length, map, get_or, set, refl, sym, ap, ◌∙◌, subst, ⊎_elim, arith, rules}
+use Rattle.std.proofs.Common.{◌≡◌, ℕ, zero, suc, ◌+◌, ◌<◌, ◌≤◌, List, [], ◌∷◌, ◌++◌, Bool, true, false, cond, eqb, Some, None, is_some, length, get_or, set, refl, sym, ap, ◌∙◌, subst, ⊎_elim, arith}
 use Rattle.std.specs.List.{slice_get, find, AllWithin}
 use Rattle.std.proofs.lemmas.Bool.{cases_lt}
 use Rattle.std.proofs.lemmas.Bool.Decides.{nat_tests}
@@ -37,10 +37,12 @@ apart-false m n h = grind (arith, nat_tests)
 apart-false_above : (m n : ℕ) → (n < m) → eqb m n ≡ false
 apart-false_above m n h = grind (arith, nat_tests)
 
-find-skip : {R : Type 0} (test : R → Bool) (row : R) (rows : List R) → test row ≡ false → find test (row ∷ rows) ≡ find test rows
+-- a look-up goes on behind a row that is not looked for
+pub find-skip : {R : Type 0} (test : R → Bool) (row : R) (rows : List R) → test row ≡ false → find test (row ∷ rows) ≡ find test rows
 find-skip test row rows e = ap (λ b. cond b (Some row) (find test rows)) e
 
-find-here : {R : Type 0} (test : R → Bool) (row : R) (rows : List R) → test row ≡ true → find test (row ∷ rows) ≡ Some row
+-- and ends at the one that is
+pub find-here : {R : Type 0} (test : R → Bool) (row : R) (rows : List R) → test row ≡ true → find test (row ∷ rows) ≡ Some row
 find-here test row rows e = ap (λ b. cond b (Some row) (find test rows)) e
 
 -- no row has an id that is above those before a place and below those from it on
@@ -153,3 +155,9 @@ absent-above id_of low last id (row ∷ rows) h above =
     let below : id_of row ≤ last = rising-ends id_of (id_of row) last rows h.1 in
     find-skip (λ r. eqb (id_of r) id) row rows (apart-false (id_of row) id (omega arith))
     ∙ absent-above id_of (id_of row) last id rows h.1 above
+
+-- a list has a row at each of its places
+pub got-within : {R : Type 0} (rows : List R) (place : ℕ) → place < length rows → is_some (slice_get rows place) ≡ true
+got-within [] place lt = absurd (omega arith)
+got-within (row ∷ rows) zero lt = refl
+got-within (row ∷ rows) (suc place) lt = got-within rows place (omega arith)

@@ -1,6 +1,6 @@
 -- Lemmas on runs of drops, and on changes one after another.
-use Rattle.std.proofs.Common.{◌≡◌, ℕ, zero, suc, ◌+◌, ◌<◌, ◌≤◌, List, [], ◌∷◌, ◌++◌, Bool, true, false, cond, not, ◌&&◌, eqb, Option, Some, None, is_some, length, get_or, take, drop, refl, sym, ap, ◌∙◌, subst, arith}
-use Rattle.std.specs.List.{filter, find, count_by, AllPass}
+use Rattle.std.proofs.Common.{◌≡◌, ℕ, suc, ◌+◌, List, [], ◌∷◌, ◌++◌, Bool, true, false, cond, not, ◌&&◌, eqb, Option, Some, is_some, take, drop, refl, sym, ap, ◌∙◌, arith}
+use Rattle.std.specs.List.{filter, count_by, AllPass}
 use Rattle.std.proofs.lemmas.Bool.Decides.{nat_tests}
 use Rattle.std.proofs.lemmas.List.{take-append-drop}
 use Rattle.std.proofs.lemmas.List.Elements.{filter_agree}
@@ -12,10 +12,10 @@ use Rattle.job_records.specs.declared.job.Job.{Job}
 use Rattle.job_records.specs.declared.log.Log.{Log}
 use Rattle.job_records.specs.Room.{Room, HasRoom, KeepsRoom, puts_group, puts_job, puts_log, puts_registration}
 use Rattle.job_records.specs.Tables.{Tables}
-use Rattle.job_records.specs.Rules.{KeepsRules}
 use Rattle.job_records.specs.Rows.{row_with}
 use Rattle.job_records.specs.Changes.{without, applied, applied_all, AreAllowed}
 use Rattle.job_records.specs.Runs.{dropped_id, is_drop_of, undropped}
+use Rattle.job_records.proofs.Keeping.{applied_append}
 
 filter-step : {R : Type 0} (p : R → Bool) (row : R) (inner both : List R) (b : Bool) → filter p inner ≡ both → filter p (cond b (row ∷ inner) inner) ≡ cond (b && p row) (row ∷ both) both
 filter-step p row inner both false e = e
@@ -54,11 +54,6 @@ drops-logs t (change.DropLog id ∷ drops) all =
     ∙ ap (λ rows. record t { logs = rows }) (undropped-cons (λ log. log.id) (change.DropLog id) drops t.logs)
 drops-logs t (c ∷ drops) all = absurd (let e : false ≡ true = all 0 c (omega arith) in cc)
 
--- changes one after another
-pub applied_all-append : (t : Tables) (cs ds : List Change) → applied_all t (cs ++ ds) ≡ applied_all (applied_all t cs) ds
-applied_all-append t [] ds = refl
-applied_all-append t (c ∷ cs) ds = applied_all-append (applied t c) cs ds
-
 -- the later changes are allowed after the earlier ones
 pub allowed-after : (t : Tables) (cs ds : List Change) → AreAllowed t (cs ++ ds) → AreAllowed (applied_all t cs) ds
 allowed-after t [] ds h = h
@@ -68,11 +63,6 @@ allowed-after t (c ∷ cs) ds h = allowed-after (applied t c) cs ds h.1
 pub allowed-before : (t : Tables) (cs ds : List Change) → AreAllowed t (cs ++ ds) → AreAllowed t cs
 allowed-before t [] ds h = tt
 allowed-before t (c ∷ cs) ds h = (h.0, allowed-before (applied t c) cs ds h.1)
-
--- allowed changes keep the rules
-pub allowed-keeps : (t : Tables) (cs : List Change) → KeepsRules t → AreAllowed t cs → KeepsRules (applied_all t cs)
-allowed-keeps t [] kept h = kept
-allowed-keeps t (c ∷ cs) kept h = allowed-keeps (applied t c) cs h.0 h.1
 
 -- the first of allowed changes are allowed
 pub allowed-take : (t : Tables) (n : ℕ) (cs : List Change) → AreAllowed t cs → AreAllowed t (take n cs)
@@ -91,7 +81,7 @@ pass-logs t kept drops rows same all is =
 -- the rest of the changes, after the first ones
 pub applied_all-rest : (t u : Tables) (n : ℕ) (cs : List Change) → u ≡ applied_all t (take n cs) → applied_all u (drop n cs) ≡ applied_all t cs
 applied_all-rest t u n cs is =
-    ap (λ s. applied_all s (drop n cs)) is ∙ sym (applied_all-append t (take n cs) (drop n cs)) ∙ ap (applied_all t) (take-append-drop n cs)
+    ap (λ s. applied_all s (drop n cs)) is ∙ sym (applied_append t (take n cs) (drop n cs)) ∙ ap (applied_all t) (take-append-drop n cs)
 
 pub allowed-rest : (t u : Tables) (n : ℕ) (cs : List Change) → u ≡ applied_all t (take n cs) → AreAllowed t cs → AreAllowed u (drop n cs)
 allowed-rest t u n cs is h = rw is (allowed-after t (take n cs) (drop n cs) (rw (take-append-drop n cs) h))

@@ -1,8 +1,8 @@
 -- Lemmas on seats in ordered lists, and on what is put or removed there.
-use Rattle.std.proofs.Common.{◌≡◌, ℕ, zero, suc, ◌+◌, ◌-◌, ◌<◌, ◌≤◌, ◌⊎◌, List, [], ◌∷◌, ◌++◌, Bool, true, false, cond, not, Result, Ok, Err, length, get_or, set, take, drop, refl, sym, ap, ◌∙◌, subst, ⊎_elim, arith}
+use Rattle.std.proofs.Common.{◌≡◌, ℕ, zero, suc, ◌-◌, ◌<◌, ◌≤◌, ◌⊎◌, List, [], ◌∷◌, Bool, true, false, cond, not, ◌||◌, Result, Ok, Err, length, get_or, set, refl, sym, ap, ◌∙◌, ⊎_elim, arith}
 use Rattle.std.specs.declared.cmp.Ordering.{Ordering}
 use Rattle.std.specs.declared.cmp.Ordering.TheVariants.{Less, Equal, Greater}
-use Rattle.std.specs.List.{AllWithin, insert, remove, filter}
+use Rattle.std.specs.List.{insert, remove, filter, list_any}
 use Rattle.std.specs.List.Sorted.{IsBinarySearchResult, IsNonDecreasingBy, IsSearchInRange}
 use Rattle.std.specs.Ordering.{match_ordering, ordering_index, is_eq}
 use Rattle.std.proofs.lemmas.Bool.{cases_lt}
@@ -108,3 +108,22 @@ filter-found order (first ∷ rows) (suc at) seat =
     let within : suc at < suc (length rows) = seat.0 in
     ap (λ xs. first ∷ xs) (filter-found order rows at (omega arith, (λ d. seat.1 d), (λ k d above below. seat.2.0 (suc k) d (omega arith) (omega arith), λ k d above below. seat.2.1 (suc k) d (omega arith) (omega arith))))
     ∙ sym (kept (λ row. not (is_eq (order row))) first rows (ap (λ o. not (is_eq o)) (seat.2.0 0 first (omega arith) (omega arith))))
+
+-- a list with a seat for an equal row has one
+pub any-found : {R : Type 0} (order : R → Ordering) (rows : List R) (at : ℕ) → IsSeat order rows (Ok at) → list_any (λ row. is_eq (order row)) rows ≡ true
+any-found order [] at seat = absurd (let lt : at < 0 = seat.0 in omega arith)
+any-found order (first ∷ rows) zero seat = ap (λ o. is_eq o || list_any (λ row. is_eq (order row)) rows) (seat.1 first)
+any-found order (first ∷ rows) (suc at) seat =
+    let within : suc at < suc (length rows) = seat.0 in
+    ap (λ o. is_eq o || list_any (λ row. is_eq (order row)) rows) (seat.2.0 0 first (omega arith) (omega arith))
+    ∙ any-found order rows at (omega arith, (λ d. seat.1 d), (λ k d above below. seat.2.0 (suc k) d (omega arith) (omega arith), λ k d above below. seat.2.1 (suc k) d (omega arith) (omega arith)))
+
+-- a list with a seat between its rows has no equal one
+pub any-absent : {R : Type 0} (order : R → Ordering) (rows : List R) (at : ℕ) → IsBetween order rows at at → list_any (λ row. is_eq (order row)) rows ≡ false
+any-absent order [] at seat = refl
+any-absent order (first ∷ rows) zero seat =
+    ap (λ o. is_eq o || list_any (λ row. is_eq (order row)) rows) (seat.1 0 first (omega arith) (omega arith))
+    ∙ any-absent order rows 0 ((λ k d above below. absurd (omega arith)), λ k d above below. seat.1 (suc k) d (omega arith) (omega arith))
+any-absent order (first ∷ rows) (suc at) seat =
+    ap (λ o. is_eq o || list_any (λ row. is_eq (order row)) rows) (seat.0 0 first (omega arith) (omega arith))
+    ∙ any-absent order rows at ((λ k d above below. seat.0 (suc k) d (omega arith) (omega arith)), λ k d above below. seat.1 (suc k) d (omega arith) (omega arith))

@@ -1,13 +1,15 @@
 -- The rules that the tables always keep.
-use Rattle.std.specs.Prelude.{◌≡◌, ℕ, ◌<◌, ◌≤◌, List, length, count_by, All, bytes_eq, IsSome, is_some, Ok}
+use Rattle.std.specs.Prelude.{◌≡◌, true, ℕ, ◌<◌, ◌≤◌, ◌⊎◌, List, length, count_by, All, bytes_eq, IsSome, is_some, Ok}
+use Rattle.std.specs.List.{list_any}
 use Rattle.job_values.specs.declared.numbers.TheConstants.{LAST_JOB_ID, LAST_LOG_ID}
 use Rattle.cron_schedule.specs.Parse.{parsed}
 use Rattle.job_records.specs.declared.limits.TheConstants.{MOST_GROUPS, MOST_JOBS, MOST_REGISTRATIONS, MOST_OF_KEY, SUCCESS}
 use Rattle.job_records.specs.declared.group.Group.{Group}
 use Rattle.job_records.specs.declared.job.Job.{Job}
+use Rattle.job_records.specs.declared.last_ids.LastIds.{LastIds}
 use Rattle.job_records.specs.declared.log.Log.{Log}
 use Rattle.job_records.specs.declared.registry.RegistryRow.{RegistryRow}
-use Rattle.job_records.specs.Order.{RisesByKey}
+use Rattle.job_records.specs.Order.{RisesByKey, is_registered}
 use Rattle.job_records.specs.Rows.{row_with, IsRising}
 use Rattle.job_records.specs.Tables.{Tables}
 
@@ -34,6 +36,25 @@ IsNamed row = (0 < length row.key) × (0 < length row.value)
 -- how many registrations have this key
 abbrev pub count_of_key : List ℕ → List RegistryRow → ℕ
 count_of_key key rows = count_by (λ row. bytes_eq row.key key) rows
+
+-- a list has a row with this id, or fewer rows than a limit
+abbrev pub HasPlace : {R : Type 0} → (R → ℕ) → ℕ → List R → ℕ → Type 0
+HasPlace id_of id rows most = (IsSome (row_with id_of id rows)) ⊎ (length rows < most)
+
+-- there is a registration with this key and value, or fewer than the limits, in all and of this key
+abbrev pub HasKeyPlace : RegistryRow → List RegistryRow → Type 0
+HasKeyPlace row rows =
+    (list_any (is_registered row.key row.value) rows ≡ true)
+    ⊎ ((length rows < MOST_REGISTRATIONS) × (count_of_key row.key rows < MOST_OF_KEY))
+
+-- last ids that go with the rows: the ids rise up to them, and they are within the greatest ids
+pub record AreLast (group_rows : List Group) (job_rows : List Job) (log_rows : List Log) (last : LastIds) : Type 0 where
+  pub groups : IsRising (λ group. group.id) 0 group_rows last.group
+  pub jobs : IsRising (λ job. job.id) 0 job_rows last.job
+  pub logs : IsRising (λ log. log.id) 0 log_rows last.log
+  pub group_ids : last.group ≤ LAST_JOB_ID
+  pub job_ids : last.job ≤ LAST_JOB_ID
+  pub log_ids : last.log ≤ LAST_LOG_ID
 
 -- the groups: their ids rise up to the last id that was given, and they are not too many
 pub record GroupRules (groups : List Group) (last : ℕ) : Type 0 where

@@ -1,5 +1,5 @@
 -- Runs of drops, which are one pass over a list.
-use Rattle.std.specs.Prelude.{◌≡◌, ℕ, List, filter, Bool, true, false, not, is_some}
+use Rattle.std.specs.Prelude.{ℕ, List, filter, Bool, true, false, not, is_some}
 use Rattle.std.specs.List.{AllPass}
 use Rattle.job_records.specs.declared.change.Change.{Change}
 use Rattle.job_records.specs.declared.change.Change.TheVariants as change

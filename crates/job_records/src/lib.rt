@@ -2,12 +2,14 @@
 //! ids, and how a row is found by its id.
 #![tactic(auto)]
 
+mod allow;
 mod apply;
 pub mod change;
 mod drops;
 mod edits;
 pub mod group;
 pub mod job;
+mod keys;
 pub mod last_ids;
 pub mod limits;
 pub mod log;
@@ -26,3 +28,6 @@ pub use log::Log;
 pub use records::Records;
 pub use registry::RegistryRow;
 pub use row::{Row, place_of};
+
+#[cfg(test)]
+mod tests;

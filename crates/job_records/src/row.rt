@@ -1,5 +1,5 @@
 //! Rows that are kept in order of their ids, and the search for an id.
-ghost use Rattle.std.specs.Prelude.{◌≡◌, ℕ, length};
+ghost use Rattle.std.specs.Prelude.{◌≡◌, ℕ, is_some, length};
 ghost use Rattle.job_records.specs.Rows.{RisesFrom, IsPlaceOf, row_with};
 ghost use Rattle.std.specs.Option.{option_copied};
 
@@ -42,5 +42,16 @@ pub(crate) fn row_at<R: Row>(rows: &[R], id: u64) -> Option<&R>
     match place_of(rows, id) {
         Some(place) => rows.get(place),
         None => None,
+    }
+}
+
+/// Whether a list has a row with this id.
+pub(crate) fn has_row<R: Row>(rows: &[R], id: u64) -> bool
+    requires { RisesFrom R.id_of 0 rows.now }
+    ensures { result ≡ is_some (row_with R.id_of id rows.now) }
+{
+    match place_of(rows, id) {
+        Some(_) => true,
+        None => false,
     }
 }

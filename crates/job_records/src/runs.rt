@@ -5,7 +5,7 @@ ghost use Rattle.job_records.specs.Runs.{dropped_id, is_drop_of, undropped, AreD
 
 use super::change::Change;
 use super::drops::Dropped;
-use super::row::{Row, place_of};
+use super::row::{Row, has_row};
 
 /// A change that drops a row has the row's id.
 impl Row for Change {
@@ -47,17 +47,6 @@ pub(crate) fn first_drops(kind: Dropped, changes: &[Change]) -> usize
     changes.len()
 }
 
-/// Whether one of these changes drops the row with this id.
-fn is_dropped(drops: &[Change], id: u64) -> bool
-    requires { RisesFrom dropped_id 0 drops.now }
-    ensures { result ≡ is_some (row_with dropped_id id drops.now) }
-{
-    match place_of(drops, id) {
-        Some(_) => true,
-        None => false,
-    }
-}
-
 /// Drops the rows that these changes drop, in one pass.
 pub(crate) fn drop_run<R: Row + Drop>(rows: &mut Vec<R>, drops: &[Change])
     requires { RisesFrom dropped_id 0 drops.now }
@@ -67,6 +56,6 @@ pub(crate) fn drop_run<R: Row + Drop>(rows: &mut Vec<R>, drops: &[Change])
     rows.retain(
         |row| -> bool
             requires { RisesFrom dropped_id 0 drops.now }
-        { !is_dropped(drops, row.id_number()) },
+        { !has_row(drops, row.id_number()) },
     );
 }

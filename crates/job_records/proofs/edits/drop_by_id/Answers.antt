@@ -1,6 +1,5 @@
 use Rattle.std.proofs.Common.{◌∙◌}
 use Rattle.job_records.specs.Order.{id_order}
-use Rattle.job_records.specs.Seats.{IsSeat}
 use Rattle.job_records.proofs.OrderLemmas.{split-rising, without-order}
 use Rattle.job_records.proofs.edits.drop_by_id.Goals as goal
 

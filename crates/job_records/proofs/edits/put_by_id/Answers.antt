@@ -1,4 +1,3 @@
-use Rattle.job_records.specs.Rows.{RisesFrom}
 use Rattle.job_records.proofs.OrderLemmas.{split-rising}
 use Rattle.job_records.proofs.edits.put_by_id.Goals as goal
 

@@ -1,10 +1,7 @@
-use Rattle.std.proofs.Common.{◌≡◌, ◌∙◌, ◌+◌, ◌<◌, ap, sym, arith, get_or, take, length, List, [], ◌∷◌, ◌++◌, subst, true}
+use Rattle.std.proofs.Common.{◌≡◌, ◌∙◌, ◌+◌, ap, sym, arith, take, length, [], ◌∷◌, ◌++◌, true}
 use Rattle.std.proofs.lemmas.List.{take_more, take_all}
 use Rattle.std.proofs.lemmas.List.Elements.{All-push}
-use Rattle.std.specs.List.{AllPass}
-use Rattle.job_records.specs.declared.change.Change.{Change}
-use Rattle.job_records.specs.Rows.{IsRising}
-use Rattle.job_records.specs.Runs.{dropped_id, is_drop_of, AreDrops}
+use Rattle.job_records.specs.Runs.{dropped_id, is_drop_of}
 use Rattle.job_records.proofs.RowLemmas.{rising-push, rises-from_rising}
 use Rattle.job_records.proofs.runs.first_drops.Goals as goal
 

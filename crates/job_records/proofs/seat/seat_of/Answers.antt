@@ -1,18 +1,13 @@
-use Rattle.std.proofs.Common.{◌≡◌, ℕ, ◌<◌, rules, arith}
-use Rattle.std.specs.declared.cmp.Ordering.TheVariants.{Less}
-use Rattle.std.specs.Ordering.{nat_cmp}
+use Rattle.std.proofs.Common.{rules, arith}
 use Rattle.std.proofs.lemmas.Fn.{always_returns_same}
-use Rattle.std.proofs.lemmas.Bool.Decides.{nat_tests}
 use Rattle.job_records.specs.Order.{id_order}
+use Rattle.job_records.proofs.OrderLemmas.{less-nat}
 use Rattle.job_records.proofs.SeatLemmas.{seat-searched, seat-behind}
 use Rattle.job_records.proofs.seat.seat_of.Goals as goal
 
-less : (m n : ℕ) → m < n → nat_cmp m n ≡ Less
-less m n h = grind (arith, nat_tests)
-
 pub returns-then-id_number-id : goal.returns-then-id_number-id
 returns-then-id_number-id g c =
-    seat-behind (id_order g.R.Row.id_of c.args.id) c.args.rows.now c.in-Some.last.now c.requires c.in-Some.ensures.item.1 (less (g.R.Row.id_of c.in-Some.last.now) c.args.id (omega arith))
+    seat-behind (id_order g.R.Row.id_of c.args.id) c.args.rows.now c.in-Some.last.now c.requires c.in-Some.ensures.item.1 (less-nat (g.R.Row.id_of c.in-Some.last.now) c.args.id (omega arith))
 
 pub returns : goal.returns
 returns g c =

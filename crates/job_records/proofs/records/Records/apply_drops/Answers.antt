@@ -1,7 +1,7 @@
-use Rattle.std.proofs.Common.{◌≡◌, ap, sym, subst}
+use Rattle.std.proofs.Common.{ap, subst}
 use Rattle.job_records.specs.Rules.{KeepsRules}
-use Rattle.job_records.specs.Tables.{Tables}
-use Rattle.job_records.proofs.RunLemmas.{pass-jobs, pass-logs, allowed-keeps}
+use Rattle.job_records.proofs.Keeping.{all_keep}
+use Rattle.job_records.proofs.RunLemmas.{pass-jobs, pass-logs}
 use Rattle.job_records.proofs.records.Records.apply_drops.Goals as goal
 
 pub returns-in-Job-clause-kept : goal.returns-in-Job-clause-kept
@@ -16,10 +16,10 @@ pub invariant_of-self : goal.invariant_of-self
 invariant_of-self c =
     let same = ap (λ s. s.kept) c.self.view_is in
     rw (pass-jobs _ c.args.self.now.kept c.args.drops.now c.drop_run.new.rows.items same (rw c.in-Job.is at c.requires.drops.all) c.drop_run.ensures.dropped)
-    (allowed-keeps c.args.self.now.kept c.args.drops.now (subst KeepsRules same c.self.invariant) c.requires.allowed)
+    (all_keep c.args.self.now.kept c.args.drops.now (subst KeepsRules same c.self.invariant) c.requires.allowed)
 
 pub invariant_of-self-in-Log : goal.invariant_of-self-in-Log
 invariant_of-self-in-Log c =
     let same = ap (λ s. s.kept) c.self.view_is in
     rw (pass-logs _ c.args.self.now.kept c.args.drops.now c.drop_run-in-Log.new.rows.items same (rw c.in-Log.is at c.requires.drops.all) c.drop_run-in-Log.ensures.dropped)
-    (allowed-keeps c.args.self.now.kept c.args.drops.now (subst KeepsRules same c.self.invariant) c.requires.allowed)
+    (all_keep c.args.self.now.kept c.args.drops.now (subst KeepsRules same c.self.invariant) c.requires.allowed)

@@ -1,4 +1,4 @@
-use Rattle.std.proofs.Common.{◌≡◌, ◌+◌, ◌-◌, drop, arith}
+use Rattle.std.proofs.Common.{◌+◌, ◌-◌, drop}
 use Rattle.job_records.proofs.RunLemmas.{allowed-take}
 use Rattle.job_records.proofs.records.Records.apply_next.Goals as goal
 

@@ -1,4 +1,3 @@
-use Rattle.job_records.specs.Rules.{KeepsRules}
 use Rattle.job_records.proofs.RowLemmas.{rises-from_rising}
 use Rattle.job_records.proofs.records.Records.apply_one.Goals as goal
 

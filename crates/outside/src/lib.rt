@@ -3,6 +3,7 @@
 #![tactic(auto)]
 
 mod failed;
+mod link;
 mod sink;
 mod source;
 mod streams;
@@ -10,6 +11,7 @@ mod streams;
 mod tests;
 
 pub use failed::Failed;
+pub use link::{Link, MemoryLink, send};
 pub use sink::{BytesSink, MemorySink, Sink, write_whole};
 pub use source::{BytesSource, MemorySource, Source};
 pub use streams::{StreamSink, StreamSource};

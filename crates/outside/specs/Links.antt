@@ -45,3 +45,15 @@ after_link_write m bytes result = record m {
   calls = faults_after m.calls;
   faults = if is_err result || takes_nothing bytes result then faults_after m.faults else m.faults;
 }
+
+-- a link as it was before any call, at this place: what was read is left again
+abbrev pub renewed_link : LinkMemory → ℕ → LinkMemory
+renewed_link m place = record m {
+  left = m.seen ++ m.left;
+  seen = [];
+  taken = [];
+  met = false;
+  dial = place;
+  calls = 0;
+  faults = 0;
+}

@@ -2,6 +2,8 @@
 //! adapters to the real thing. Every object counts its faults, and a call fails only where that count rose.
 #![tactic(auto)]
 
+mod dialed;
+mod dialer;
 mod failed;
 mod link;
 mod sink;
@@ -10,6 +12,8 @@ mod streams;
 #[cfg(test)]
 mod tests;
 
+pub use dialed::{Dialed, Shown};
+pub use dialer::{Dialer, MemoryDialer};
 pub use failed::Failed;
 pub use link::{Link, MemoryLink, send};
 pub use sink::{BytesSink, MemorySink, Sink, write_whole};

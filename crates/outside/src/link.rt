@@ -1,12 +1,14 @@
 //! Links, which carry bytes both ways, and a link in memory.
-ghost use Rattle.std.specs.Prelude.{◌≡◌, ℕ, ◌≤◌, ◌<◌, ◌||◌, [], min, take, length, false, IfOk, OnOk, OnErr, IsTrue, IsErr, is_err};
+ghost use Rattle.std.specs.Prelude.{◌≡◌, ℕ, ◌≤◌, ◌<◌, ◌||◌, [], min, take, length, nat_lt, false, IfOk, OnOk, OnErr, IsTrue, IsErr, is_err};
 ghost use Rattle.std.specs.Io.{ReadsAtMost, WritesAtMost};
 ghost use Rattle.std.specs.Io.KnownBytes.{Appends, ReadConsumes, WriteAppends};
 ghost use Rattle.outside.specs.Causes.{HasCause, Rose};
 ghost use Rattle.outside.specs.Streams.{AppendsFront, is_to_fail};
-ghost use Rattle.outside.specs.Links.{ReadGrows, meets_end, after_link_read, after_link_write};
+ghost use Rattle.outside.specs.Links.{ReadGrows, meets_end, after_link_read, after_link_write, renewed_link};
 
+use super::dialed::Shown;
 use super::failed::{Failed, one_more};
+use job_values::{NoMemory, Seq};
 use std::alloc::Global;
 use std::marker::Model;
 
@@ -194,6 +196,59 @@ impl MemoryLink {
         ensures { result ≡ self.now.faults }
     {
         self.faults
+    }
+
+    /// The place of its dial among the dials of its dialer, counted from 0.
+    pub fn place(&self) -> usize
+        ensures { result ≡ self.now.dial }
+    {
+        self.dial
+    }
+
+    /// The link as it was before any call, at this place among the dials.
+    pub fn renewed(mut self, place: usize) -> MemoryLink
+        ensures { result ≡ renewed_link self place }
+    {
+        self.place = 0;
+        self.taken.clear();
+        self.met = false;
+        self.dial = place;
+        self.calls = 0;
+        self.faults = 0;
+        self
+    }
+
+    /// Another link in the same state.
+    pub fn copied(&self, alloc: Global) -> Result<MemoryLink, NoMemory>
+        ensures { IfOk result (λ l. l ≡ self.now) }
+    {
+        Ok(MemoryLink {
+            bytes: Vec::from_slice(alloc, &self.bytes).map_err(|_| NoMemory)?,
+            place: self.place,
+            taken: Vec::from_slice(alloc, &self.taken).map_err(|_| NoMemory)?,
+            met: self.met,
+            dial: self.dial,
+            piece: self.piece,
+            room: self.room,
+            failing: Vec::from_slice(alloc, &self.failing).map_err(|_| NoMemory)?,
+            calls: self.calls,
+            faults: self.faults,
+        })
+    }
+
+    /// What it shows when it is hung up. It takes no memory.
+    pub fn into_shown(self) -> Shown
+        ensures { result ≡ record { written = self.taken; read = self.seen; met = self.met; faulted = nat_lt 0 self.faults } }
+    {
+        let faulted = self.faults > 0;
+        let mut read = self.bytes;
+        read.truncate(self.place);
+        Shown {
+            written: Seq::of(self.taken),
+            read: Seq::of(read),
+            met: self.met,
+            faulted,
+        }
     }
 }
 

@@ -46,8 +46,19 @@ pub record TakesUp (before faults now : ℕ) : Type 0 where
   pub later : before ≤ now
   pub all : min (before + faults) (2 ^ 64 - 1) ≤ now
 
--- links that are given, or refusals, dial by dial, and the dials so far where they are told
-pub record DialMemory : Type 0 where
+-- links that are given or refused, dial by dial, and the dials so far where they are told
+pub record ScriptedDials : Type 0 where
   pub script : List (Option LinkMemory)
+  pub dials : Option (List Dialed)
+  pub faults : ℕ
+
+-- the link that the next dial gives, if it is not refused
+abbrev pub next_link : List (Option LinkMemory) → Option LinkMemory
+next_link [] = None
+next_link (item ∷ items) = item
+
+-- the bytes that are read from every link, and the dials so far where they are told
+pub record AnsweredDials : Type 0 where
+  pub answer : List ℕ
   pub dials : Option (List Dialed)
   pub faults : ℕ

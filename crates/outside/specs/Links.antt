@@ -1,5 +1,5 @@
 -- What a link tells of reading, and links in memory as contracts see them.
-use Rattle.std.specs.Prelude.{ℕ, Bool, false, List, [], ◌++◌, ◌||◌, take, drop, Option, Result, MatchResult, is_err, if◌then◌else◌}
+use Rattle.std.specs.Prelude.{ℕ, ◌-◌, ◌^◌, Bool, false, List, [], ◌++◌, ◌||◌, take, drop, Option, Result, MatchResult, is_err, if◌then◌else◌}
 use Rattle.std.specs.Result.{result_unwrap_or}
 use Rattle.std.specs.Io.KnownBytes.{Appends, Keeps}
 use Rattle.outside.specs.Causes.{faults_after}
@@ -54,6 +54,21 @@ renewed_link m place = record m {
   taken = [];
   met = false;
   dial = place;
+  calls = 0;
+  faults = 0;
+}
+
+-- a link with these bytes to be read, before any call, at this place
+abbrev pub fresh_link : List ℕ → ℕ → LinkMemory
+fresh_link bytes place = record {
+  left = bytes;
+  seen = [];
+  taken = [];
+  met = false;
+  dial = place;
+  piece = 2 ^ 64 - 1;
+  room = 2 ^ 64 - 1;
+  failing = [];
   calls = 0;
   faults = 0;
 }

@@ -1,13 +1,15 @@
-//! Dialers, which give links to a host and port, and a dialer in memory.
-ghost use Rattle.std.specs.Prelude.{◌≡◌, ℕ, [], ◌∷◌, ◌++◌, Some, None, true, false, IfOk, OnOk, OnErr, IfSome, is_err};
+//! Dialers, which give links to a host and port, and two of them in memory.
+ghost use Rattle.std.specs.Prelude.{◌≡◌, ℕ, ◌+◌, ◌≤◌, [], Some, None, true, false, length, drop, IfOk, IsOk, IsErr, OnOk, OnErr, IfSome, IsSome, is_err, if◌then◌else◌};
 ghost use Rattle.std.specs.Option.{option_map};
 ghost use Rattle.outside.specs.Causes.{HasCause, faults_after};
-ghost use Rattle.outside.specs.Dials.{dial_of, AddsDial, IsFresh, shown_of, hung_up, HangsUp, TakesUp};
+ghost use Rattle.outside.specs.Links.{renewed_link, fresh_link};
+ghost use Rattle.outside.specs.Dials.{dial_of, AddsDial, IsFresh, shown_of, HangsUp, TakesUp, next_link};
 
-use super::dialed::{Dialed, Shown};
+use super::dialed::Dialed;
 use super::failed::{Failed, one_more};
-use super::link::{Link, MemoryLink};
-use job_values::{NoMemory, Text};
+use super::kept_dials::KeptDials;
+use super::link::{BytesLink, Link, MemoryLink};
+use job_values::NoMemory;
 use std::alloc::Global;
 use std::collections::VecDeque;
 use std::marker::Model;
@@ -51,62 +53,21 @@ pub trait Dialer: Drop {
 /// from then on.
 #[derive(Drop)]
 pub struct MemoryDialer {
-    alloc: Global,
     script: VecDeque<Option<MemoryLink>>,
-    dials: Vec<Dialed>,
-    lost: bool,
+    kept: KeptDials,
     faults: u64,
 }
 
 impl Model for MemoryDialer {
-    ghost use Rattle.std.specs.Prelude.{if◌then◌else◌, None, Some};
-    ghost use Rattle.outside.specs.Dials.{DialMemory};
+    ghost use Rattle.outside.specs.Dials.{ScriptedDials};
 
-    ghost Value = { DialMemory };
+    ghost Value = { ScriptedDials };
 
-    ghost view = { λ s. record {
-      script = s.script.items;
-      dials = if s.lost then None else Some s.dials.items;
-      faults = s.faults;
-    } };
-}
-
-/// Puts a dial behind the others. An `Err` changes nothing.
-fn keep_dial(
-    alloc: Global,
-    dials: &mut Vec<Dialed>,
-    host: &str,
-    port: u16,
-    failed: bool,
-) -> Result<(), NoMemory>
-    ensures ok { OnOk result (dials.new.items ≡ dials.old.items ++ dial_of host.now port failed ∷ []) }
-    ensures err { OnErr result (dials.new.items ≡ dials.old.items) }
-{
-    let host = Text::copied(alloc, host)?;
-    let dial = Dialed {
-        host,
-        port,
-        failed,
-        shown: None,
-    };
-    dials.push(dial).map_err(|_| NoMemory)?;
-    Ok(())
-}
-
-/// Lets the dial at a place show what its link told.
-fn show_dial(dials: &mut Vec<Dialed>, place: usize, shown: Shown)
-    ensures { dials.new.items ≡ hung_up dials.old.items place (Some shown) }
-{
-    if place < dials.len() {
-        dials[place].shown = Some(shown);
-    }
+    ghost view = { λ s. record { script = s.script.items; dials = s.kept; faults = s.faults } };
 }
 
 /// Another of the same link or refusal.
-fn copied_item(
-    alloc: Global,
-    item: &Option<MemoryLink>,
-) -> Result<Option<MemoryLink>, NoMemory>
+fn copied_item(alloc: Global, item: &Option<MemoryLink>) -> Result<Option<MemoryLink>, NoMemory>
     ensures { IfOk result (λ i. i ≡ item.now) }
 {
     match item {
@@ -137,10 +98,8 @@ impl MemoryDialer {
         ensures { result ≡ record { script = script.items; dials = Some []; faults = 0 } }
     {
         MemoryDialer {
-            alloc,
             script,
-            dials: Vec::new(alloc),
-            lost: false,
+            kept: KeptDials::new(alloc),
             faults: 0,
         }
     }
@@ -149,11 +108,7 @@ impl MemoryDialer {
     pub fn dials(&self) -> Option<&[Dialed]>
         ensures { option_map (λ ds. ds.now) result ≡ self.now.dials }
     {
-        if self.lost {
-            None
-        } else {
-            Some(self.dials.as_slice())
-        }
+        self.kept.told()
     }
 
     /// How often it failed, with the faults of the links that were hung up.
@@ -161,20 +116,6 @@ impl MemoryDialer {
         ensures { result ≡ self.now.faults }
     {
         self.faults
-    }
-
-    /// Keeps a dial. Where there is no memory for it the dials are untold from then on.
-    fn keep(&mut self, host: &str, port: u16, failed: bool) -> Result<(), NoMemory>
-        ensures ok { OnOk result (AddsDial self.old.dials self.new.dials (dial_of host.now port failed)) }
-        ensures err { OnErr result (self.new.dials ≡ None) }
-        ensures script { self.new.script ≡ self.old.script }
-        ensures faults { self.new.faults ≡ self.old.faults }
-    {
-        let kept = keep_dial(self.alloc, &mut self.dials, host, port, failed);
-        if kept.is_err() {
-            self.lost = true;
-        }
-        kept
     }
 }
 
@@ -185,27 +126,155 @@ impl Dialer for MemoryDialer {
 
     ghost faults = { λ s. s.faults };
 
-    fn dial(&mut self, host: &str, port: u16) -> Result<MemoryLink, Failed> {
-        let place = self.dials.len();
+    fn dial(&mut self, host: &str, port: u16) -> Result<MemoryLink, Failed>
+        ensures dialed { AddsDial self.old.dials self.new.dials (dial_of host.now port (is_err result)) }
+        ensures fresh { IfOk result (λ l. IsFresh self.old.dials l.dial (Some l.seen) (Some l.taken) l.met l.faults) }
+        ensures cause { HasCause self.old.faults self.new.faults result }
+        ensures link { IfOk result (λ l. IfSome (next_link self.old.script) (λ m. l ≡ renewed_link m l.dial)) }
+        ensures refused { next_link self.old.script ≡ None → IsErr result }
+        ensures given { IsSome (next_link self.old.script) → IsSome self.new.dials → IsOk result }
+        ensures script { self.new.script ≡ drop 1 self.old.script }
+        ensures count { self.new.faults ≡ (if is_err result then faults_after self.old.faults else self.old.faults) }
+    {
+        let place = self.kept.next_place();
         if let Some(Some(link)) = self.script.pop_front() {
-            if self.keep(host, port, false).is_ok() {
+            if self.kept.add(host, port, false).is_ok() {
                 return Ok(link.renewed(place));
             }
         } else {
-            let _ = self.keep(host, port, true);
+            let _ = self.kept.add(host, port, true);
         }
         self.faults = one_more(self.faults);
         Err(Failed)
     }
 
-    fn hang_up(&mut self, link: MemoryLink) {
+    fn hang_up(&mut self, link: MemoryLink)
+        ensures shown { HangsUp self.old.dials self.new.dials link.dial (shown_of (Some link.seen) (Some link.taken) link.met link.faults) }
+        ensures count { TakesUp self.old.faults link.faults self.new.faults }
+        ensures most { self.new.faults ≤ self.old.faults + link.faults }
+        ensures script { self.new.script ≡ self.old.script }
+    {
         self.faults = self.faults.saturating_add(link.faults());
         let place = link.place();
-        show_dial(&mut self.dials, place, link.into_shown());
+        self.kept.show(place, link.into_shown());
     }
 
-    fn another(&mut self) -> Result<MemoryDialer, NoMemory> {
-        let script = copied_script(self.alloc, &self.script)?;
-        Ok(MemoryDialer::new(self.alloc, script))
+    fn another(&mut self) -> Result<MemoryDialer, NoMemory>
+        ensures anew { IfOk result (λ d. IfSome self.old.dials (λ _. d.dials ≡ Some [])) }
+        ensures none { IfOk result (λ d. d.faults ≡ 0) }
+        ensures dials { self.new.dials ≡ self.old.dials }
+        ensures count { self.new.faults ≡ self.old.faults }
+        ensures script { IfOk result (λ d. d.script ≡ self.old.script) }
+        ensures same { self.new ≡ self.old }
+    {
+        let script = copied_script(self.kept.alloc(), &self.script)?;
+        Ok(MemoryDialer::new(self.kept.alloc(), script))
+    }
+}
+
+/// A dialer in memory that refuses no dial: from each link that it gives the same bytes are read. Want of
+/// memory in a dial is counted as a fault, and the dials are untold from then on.
+#[derive(Drop)]
+pub struct BytesDialer {
+    answer: Vec<u8>,
+    kept: KeptDials,
+    faults: u64,
+}
+
+impl Model for BytesDialer {
+    ghost use Rattle.outside.specs.Dials.{AnsweredDials};
+
+    ghost Value = { AnsweredDials };
+
+    ghost view = { λ s. record { answer = s.answer.items; dials = s.kept; faults = s.faults } };
+}
+
+impl BytesDialer {
+    /// A dialer whose links give these bytes.
+    pub fn new(alloc: Global, answer: Vec<u8>) -> BytesDialer
+        ensures { result ≡ record { answer = answer.items; dials = Some []; faults = 0 } }
+    {
+        BytesDialer {
+            answer,
+            kept: KeptDials::new(alloc),
+            faults: 0,
+        }
+    }
+
+    /// The dials so far. None where memory ran out in one of them.
+    pub fn dials(&self) -> Option<&[Dialed]>
+        ensures { option_map (λ ds. ds.now) result ≡ self.now.dials }
+    {
+        self.kept.told()
+    }
+
+    /// A link with the answer, after the dial was kept.
+    fn answered(&mut self, host: &str, port: u16) -> Result<BytesLink, NoMemory>
+        ensures ok { OnOk result (AddsDial self.old.dials self.new.dials (dial_of host.now port false)) }
+        ensures err { OnErr result (AddsDial self.old.dials self.new.dials (dial_of host.now port true)) }
+        ensures link { IfOk result (λ l. l ≡ fresh_link self.old.answer l.dial) }
+        ensures place { IfOk result (λ l. IfSome self.old.dials (λ ds. l.dial ≡ length ds)) }
+        ensures answer { self.new.answer ≡ self.old.answer }
+        ensures faults { self.new.faults ≡ self.old.faults }
+    {
+        let place = self.kept.next_place();
+        match Vec::from_slice(self.kept.alloc(), &self.answer) {
+            Ok(answer) => {
+                self.kept.add(host, port, false)?;
+                Ok(BytesLink::new(self.kept.alloc(), answer).renewed(place))
+            }
+            Err(_) => {
+                let _ = self.kept.add(host, port, true);
+                Err(NoMemory)
+            }
+        }
+    }
+}
+
+impl Dialer for BytesDialer {
+    type Link = BytesLink;
+
+    ghost dials = { λ s. s.dials };
+
+    ghost faults = { λ s. s.faults };
+
+    fn dial(&mut self, host: &str, port: u16) -> Result<BytesLink, Failed>
+        ensures dialed { AddsDial self.old.dials self.new.dials (dial_of host.now port (is_err result)) }
+        ensures fresh { IfOk result (λ l. IsFresh self.old.dials l.dial (Some l.seen) (Some l.taken) l.met l.faults) }
+        ensures cause { HasCause self.old.faults self.new.faults result }
+        ensures link { IfOk result (λ l. l ≡ fresh_link self.old.answer l.dial) }
+        ensures answer { self.new.answer ≡ self.old.answer }
+        ensures count { self.new.faults ≡ (if is_err result then faults_after self.old.faults else self.old.faults) }
+    {
+        match self.answered(host, port) {
+            Ok(link) => Ok(link),
+            Err(NoMemory) => {
+                self.faults = one_more(self.faults);
+                Err(Failed)
+            }
+        }
+    }
+
+    fn hang_up(&mut self, link: BytesLink)
+        ensures shown { HangsUp self.old.dials self.new.dials link.dial (shown_of (Some link.seen) (Some link.taken) link.met link.faults) }
+        ensures count { TakesUp self.old.faults link.faults self.new.faults }
+        ensures most { self.new.faults ≤ self.old.faults + link.faults }
+        ensures answer { self.new.answer ≡ self.old.answer }
+    {
+        self.faults = self.faults.saturating_add(link.faults());
+        let place = link.place();
+        self.kept.show(place, link.into_shown());
+    }
+
+    fn another(&mut self) -> Result<BytesDialer, NoMemory>
+        ensures anew { IfOk result (λ d. IfSome self.old.dials (λ _. d.dials ≡ Some [])) }
+        ensures none { IfOk result (λ d. d.faults ≡ 0) }
+        ensures dials { self.new.dials ≡ self.old.dials }
+        ensures count { self.new.faults ≡ self.old.faults }
+        ensures answer { IfOk result (λ d. d.answer ≡ self.old.answer) }
+        ensures same { self.new ≡ self.old }
+    {
+        let answer = Vec::from_slice(self.kept.alloc(), &self.answer).map_err(|_| NoMemory)?;
+        Ok(BytesDialer::new(self.kept.alloc(), answer))
     }
 }

@@ -5,6 +5,7 @@
 mod dialed;
 mod dialer;
 mod failed;
+mod kept_dials;
 mod link;
 mod sink;
 mod source;
@@ -13,9 +14,9 @@ mod streams;
 mod tests;
 
 pub use dialed::{Dialed, Shown};
-pub use dialer::{Dialer, MemoryDialer};
+pub use dialer::{BytesDialer, Dialer, MemoryDialer};
 pub use failed::Failed;
-pub use link::{Link, MemoryLink, send};
+pub use link::{BytesLink, Link, MemoryLink, send};
 pub use sink::{BytesSink, MemorySink, Sink, write_whole};
 pub use source::{BytesSource, MemorySource, Source};
 pub use streams::{StreamSink, StreamSource};

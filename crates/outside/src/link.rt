@@ -1,10 +1,10 @@
-//! Links, which carry bytes both ways, and a link in memory.
-ghost use Rattle.std.specs.Prelude.{◌≡◌, ℕ, ◌≤◌, ◌<◌, ◌||◌, [], min, take, length, nat_lt, false, IfOk, OnOk, OnErr, IsTrue, IsErr, is_err};
+//! Links, which carry bytes both ways, and two of them in memory.
+ghost use Rattle.std.specs.Prelude.{◌≡◌, ℕ, ◌≤◌, ◌<◌, ◌||◌, [], min, take, length, nat_lt, IfOk, IsOk, OnOk, OnErr, IsTrue, IsErr, is_err};
 ghost use Rattle.std.specs.Io.{ReadsAtMost, WritesAtMost};
 ghost use Rattle.std.specs.Io.KnownBytes.{Appends, ReadConsumes, WriteAppends};
 ghost use Rattle.outside.specs.Causes.{HasCause, Rose};
 ghost use Rattle.outside.specs.Streams.{AppendsFront, is_to_fail};
-ghost use Rattle.outside.specs.Links.{ReadGrows, meets_end, after_link_read, after_link_write, renewed_link};
+ghost use Rattle.outside.specs.Links.{ReadGrows, meets_end, after_link_read, after_link_write, renewed_link, fresh_link};
 
 use super::dialed::Shown;
 use super::failed::{Failed, one_more};
@@ -131,18 +131,7 @@ impl MemoryLink {
     /// A link from which these bytes are read, as many of them in a call as there is room for, and
     /// which takes all that it is given. None of its calls fails.
     pub fn new(alloc: Global, bytes: Vec<u8>) -> MemoryLink
-        ensures { result ≡ record {
-          left = bytes.items;
-          seen = [];
-          taken = [];
-          met = false;
-          dial = 0;
-          piece = usize.MAX;
-          room = usize.MAX;
-          failing = [];
-          calls = 0;
-          faults = 0;
-        } }
+        ensures { result ≡ fresh_link bytes.items 0 }
     {
         MemoryLink {
             bytes,
@@ -317,5 +306,115 @@ impl Link for MemoryLink {
             self.faults = one_more(self.faults);
         }
         Ok(count)
+    }
+}
+
+/// A link in memory that gives and takes all that there is room for. It fails only for want of memory in
+/// a write, which it counts as a fault.
+#[derive(Drop)]
+pub struct BytesLink {
+    link: MemoryLink,
+}
+
+impl Model for BytesLink {
+    ghost use Rattle.std.specs.Prelude.{◌≡◌, []};
+    ghost use Rattle.outside.specs.Links.{LinkMemory};
+
+    ghost Value = { LinkMemory };
+
+    ghost view = { λ s. s.link };
+
+    ghost invariant = { λ s. s.link.failing ≡ [] };
+}
+
+impl BytesLink {
+    /// A link from which these bytes are read.
+    pub fn new(alloc: Global, bytes: Vec<u8>) -> BytesLink
+        ensures { result ≡ fresh_link bytes.items 0 }
+    {
+        BytesLink {
+            link: MemoryLink::new(alloc, bytes),
+        }
+    }
+
+    /// The link as it was before any call, at this place among the dials of its dialer.
+    pub fn renewed(self, place: usize) -> BytesLink
+        ensures { result ≡ renewed_link self place }
+    {
+        BytesLink {
+            link: self.link.renewed(place),
+        }
+    }
+
+    /// The bytes that it took.
+    pub fn taken(&self) -> &[u8]
+        ensures { result.now ≡ self.now.taken }
+    {
+        self.link.taken()
+    }
+
+    /// How often it failed.
+    pub fn faults(&self) -> u64
+        ensures { result ≡ self.now.faults }
+    {
+        self.link.faults()
+    }
+
+    /// The place of its dial among the dials of its dialer, counted from 0.
+    pub fn place(&self) -> usize
+        ensures { result ≡ self.now.dial }
+    {
+        self.link.place()
+    }
+
+    /// What it shows when it is hung up. It takes no memory.
+    pub fn into_shown(self) -> Shown
+        ensures { result ≡ record { written = self.taken; read = self.seen; met = self.met; faulted = nat_lt 0 self.faults } }
+    {
+        self.link.into_shown()
+    }
+}
+
+impl Link for BytesLink {
+    ghost use Rattle.std.specs.Prelude.{Some};
+
+    ghost left = { λ s. Some s.left };
+
+    ghost seen = { λ s. Some s.seen };
+
+    ghost taken = { λ s. Some s.taken };
+
+    ghost met = { λ s. s.met };
+
+    ghost dial = { λ s. s.dial };
+
+    ghost faults = { λ s. s.faults };
+
+    fn read(&mut self, into: &mut [u8]) -> Result<usize, Failed>
+        ensures bound { ReadsAtMost result into.new }
+        ensures bytes { ReadConsumes (Some self.old.left) (Some self.new.left) result into.new }
+        ensures grows { ReadGrows (Some self.old.seen) (Some self.new.seen) result into.new }
+        ensures end { self.new.met ≡ (self.old.met || meets_end into.new result) }
+        ensures other { Some self.new.taken ≡ Some self.old.taken }
+        ensures place { self.new.dial ≡ self.old.dial }
+        ensures cause { HasCause self.old.faults self.new.faults result }
+        ensures never { IsOk result }
+        ensures after { self.new ≡ after_link_read self.old into.new result }
+    {
+        self.link.read(into)
+    }
+
+    fn write(&mut self, bytes: &[u8]) -> Result<usize, Failed>
+        ensures bound { WritesAtMost result bytes.now }
+        ensures bytes { WriteAppends (Some self.old.taken) (Some self.new.taken) result bytes.now }
+        ensures other { Some self.new.left ≡ Some self.old.left }
+        ensures seen { Some self.new.seen ≡ Some self.old.seen }
+        ensures end { self.new.met ≡ self.old.met }
+        ensures place { self.new.dial ≡ self.old.dial }
+        ensures none { IfOk result (λ n. n ≡ 0 → 0 < length bytes.now → Rose self.old.faults self.new.faults) }
+        ensures cause { HasCause self.old.faults self.new.faults result }
+        ensures after { self.new ≡ after_link_write self.old bytes.now result }
+    {
+        self.link.write(bytes)
     }
 }

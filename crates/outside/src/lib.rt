@@ -10,6 +10,7 @@ mod link;
 mod sink;
 mod source;
 mod streams;
+mod tcp;
 #[cfg(test)]
 mod tests;
 
@@ -20,3 +21,4 @@ pub use link::{BytesLink, Link, MemoryLink, send};
 pub use sink::{BytesSink, MemorySink, Sink, write_whole};
 pub use source::{BytesSource, MemorySource, Source};
 pub use streams::{StreamSink, StreamSource};
+pub use tcp::{TcpDialer, TcpLink};

@@ -1,19 +1,15 @@
 -- What holds of every list of bytes, every request and every fault.
-use Rattle.std.specs.Prelude.{ℕ, ◌≡◌, ◌⊎◌, Bool, List, []}
+use Rattle.std.specs.Prelude.{ℕ, ◌≡◌, Bool, List, []}
 use Rattle.http_reading.specs.Requests.{Reads, HasFault}
 use Rattle.http_reading.specs.declared.request.Request.{Request}
 use Rattle.http_reading.specs.declared.fault.HttpFault.{HttpFault}
-use Rattle.http_reading.specs.declared.fault.HttpFault.TheVariants.{LinkFault, NoMemory}
+use Rattle.http_reading.specs.Draws.{IsOutside}
 
 -- bytes begin with at most one request, and what follows it is told
 abbrev pub OneRequest : Type 0
 OneRequest =
     (bytes : List ℕ) (first second : Request) (rest other : List ℕ)
     → Reads bytes first rest → Reads bytes second other → (first ≡ second) × (rest ≡ other)
-
--- the fault is not of the bytes
-abbrev pub IsOutside : HttpFault → Type 0
-IsOutside fault = (fault ≡ LinkFault) ⊎ (fault ≡ NoMemory)
 
 -- bytes that begin with a request have no fault
 abbrev pub NoFault : Type 0

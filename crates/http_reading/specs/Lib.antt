@@ -1,5 +1,6 @@
 pub mod Buffer
 pub mod Plans
+pub mod Found
 pub mod Draws
 pub mod Chunks
 pub mod Bodies

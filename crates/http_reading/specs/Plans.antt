@@ -31,6 +31,10 @@ values_of name [] = []
 values_of name (f ∷ fields) =
     if str_eq_ignore_ascii_case f.0 name then f.1 ∷ values_of name fields else values_of name fields
 
+-- the value of one field, where it has the name
+abbrev pub value_if : List ℕ → List ℕ × List ℕ → List (List ℕ)
+value_if name f = if str_eq_ignore_ascii_case f.0 name then f.1 ∷ [] else []
+
 -- the first, if there is one
 abbrev pub first_of : List (List ℕ) → Option (List ℕ)
 first_of [] = None
@@ -71,7 +75,14 @@ to_end TooLarge = TooLarge
 abbrev pub token_of : List (List ℕ × List ℕ) → Option (List ℕ)
 token_of fields = first_of (values_of (codes "xxl-job-access-token") fields)
 
+-- the value is `close`, without regard to ASCII case
+abbrev pub is_close : List ℕ → Bool
+is_close value = str_eq_ignore_ascii_case value (codes "close")
+
+-- a field says that the link is to be closed
+abbrev pub has_close : List (List ℕ × List ℕ) → Bool
+has_close fields = list_any is_close (values_of (codes "connection") fields)
+
 -- a request of this minor version of HTTP/1 with these fields is the last on its link
 abbrev pub closes : ℕ → List (List ℕ × List ℕ) → Bool
-closes minor fields =
-    minor == 0 || list_any (λ value. str_eq_ignore_ascii_case value (codes "close")) (values_of (codes "connection") fields)
+closes minor fields = minor == 0 || has_close fields

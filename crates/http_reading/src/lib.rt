@@ -3,6 +3,9 @@
 #![tactic(auto)]
 
 mod fault;
+mod fields;
+mod fill;
+mod head;
 mod plan;
 mod request;
 mod response;

@@ -1,4 +1,10 @@
 //! How the body of a message is read, by the fields of its head.
+ghost use Rattle.std.specs.Prelude.{◌≡◌, ◌≤◌, All, length, map};
+ghost use Rattle.httparse.specs.Spans.{IsHeaderWithin, header_bytes};
+ghost use Rattle.http_reading.specs.Plans.{plan_of, sized};
+
+use super::fields::{Found, same_text, values_of};
+use httparse::spans::HeaderSpan;
 
 /// The most bytes of a body.
 pub const MOST_BODY: usize = 1_048_576;
@@ -38,5 +44,46 @@ impl BodyPlan {
             BodyPlan::Empty => BodyPlan::ToEnd,
             plan => plan,
         }
+    }
+}
+
+/// The body of a head with this one length.
+fn sized(value: &[u8]) -> BodyPlan
+    ensures { result ≡ sized value.now }
+{
+    if value.is_empty() {
+        return BodyPlan::Bad;
+    }
+    let mut length: usize = 0;
+    for digit in value {
+        if !digit.is_ascii_digit() {
+            return BodyPlan::Bad;
+        }
+        length = (length * 10 + usize::from(*digit - b'0')).min(MOST_BODY + 1);
+    }
+    if length > MOST_BODY {
+        return BodyPlan::TooLarge;
+    }
+    BodyPlan::Sized(length)
+}
+
+/// How the body behind a head with these fields is read.
+pub(crate) fn plan_of(bytes: &[u8], headers: &[HeaderSpan]) -> BodyPlan
+    requires { All (IsHeaderWithin (length bytes.now)) headers.now }
+    ensures { result ≡ plan_of (map (header_bytes bytes.now) headers.now) }
+{
+    let lengths = values_of(bytes, headers, b"content-length");
+    let codings = values_of(bytes, headers, b"transfer-encoding");
+    match (lengths, codings) {
+        (Found::None, Found::None) => BodyPlan::Empty,
+        (Found::One(length), Found::None) => sized(length.of(bytes)),
+        (Found::None, Found::One(coding)) => {
+            if same_text(coding.of(bytes), b"chunked") {
+                BodyPlan::Chunked
+            } else {
+                BodyPlan::Bad
+            }
+        }
+        _ => BodyPlan::Bad,
     }
 }

@@ -1,2 +1,3 @@
 pub mod DrawLemmas
 pub mod FieldLemmas
+pub mod HeadLemmas

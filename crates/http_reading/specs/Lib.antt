@@ -6,4 +6,5 @@ pub mod Chunks
 pub mod Bodies
 pub mod Requests
 pub mod Responses
+pub mod Heads
 pub mod Laws

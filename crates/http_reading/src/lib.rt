@@ -9,6 +9,7 @@ mod head;
 mod plan;
 mod request;
 mod response;
+mod top;
 
 pub use fault::HttpFault;
 pub use plan::{BodyPlan, MOST_BODY, MOST_FIELDS, MOST_LINE};

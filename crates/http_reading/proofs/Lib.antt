@@ -1,0 +1,3 @@
+pub mod DrawLemmas
+pub mod FieldLemmas
+pub mod HeadLemmas

@@ -1,0 +1,17 @@
+//! HTTP requests and responses, read from a link in any pieces: heads by `httparse`, bodies with a
+//! length, in chunks or to the link's end, and the first fault of bytes that are none.
+#![tactic(auto)]
+
+mod fault;
+mod fields;
+mod fill;
+mod head;
+mod plan;
+mod request;
+mod response;
+mod top;
+
+pub use fault::HttpFault;
+pub use plan::{BodyPlan, MOST_BODY, MOST_FIELDS, MOST_LINE};
+pub use request::{HttpBuffer, Request, read_request};
+pub use response::{Response, read_response};

@@ -1,0 +1,76 @@
+//! Requests, one after another on a link.
+ghost use Rattle.std.specs.Prelude.{◌≡◌, ◌≤◌, [], true, false, Err, is_err, IfOk, IfErr, MatchOption};
+ghost use Rattle.std.specs.Io.KnownBytes.{IsAtEnd};
+ghost use Rattle.outside.specs.Causes.{Rose};
+ghost use Rattle.http_reading.specs.Requests.{stream, TakesRequest, FaultOf};
+
+use super::fault::HttpFault;
+use job_values::Seq;
+use outside::Link;
+use std::alloc::Global;
+use std::marker::Model;
+
+/// A request. Its values have no white space around them.
+#[derive(Debug, Drop)]
+pub struct Request {
+    pub method: Seq<u8>,
+    pub path: Seq<u8>,
+    /// The value of the first `XXL-JOB-ACCESS-TOKEN` field.
+    pub token: Option<Seq<u8>>,
+    /// Whether it is the last on its link: HTTP/1.0, or `Connection: close`.
+    pub close: bool,
+    pub body: Seq<u8>,
+}
+
+/// What a link gave beyond the requests that were read. One buffer goes with one link.
+#[derive(Drop)]
+pub struct HttpBuffer {
+    bytes: Vec<u8>,
+    faulted: bool,
+}
+
+impl Model for HttpBuffer {
+    ghost use Rattle.http_reading.specs.Buffer.{BufferView};
+
+    ghost Value = { BufferView };
+
+    ghost view = { λ b. record { bytes = b.bytes.items; faulted = b.faulted } };
+}
+
+impl HttpBuffer {
+    /// A buffer without bytes, which has met no fault. It takes no memory.
+    pub fn new(alloc: Global) -> HttpBuffer
+        ensures { result ≡ record { bytes = []; faulted = false } }
+    {
+        HttpBuffer {
+            bytes: Vec::new(alloc),
+            faulted: false,
+        }
+    }
+}
+
+/// Reads the request at the front of the buffer's bytes and then the link's; `None` where there is no
+/// byte. It reads no more of the link than it needs to see the request's last byte, up to the piece
+/// that the link gives. After a fault every call on the buffer answers `Ended { taken: 0 }`.
+pub fn read_request<L: Link>(
+    alloc: Global,
+    link: &mut L,
+    buffer: &mut HttpBuffer,
+) -> Result<Option<Request>, HttpFault>
+    // The request at the front of the stream, and what follows it is the stream now.
+    ensures request { IfOk result (λ o. MatchOption o
+        (IsAtEnd (stream buffer.old.bytes (L.left link.old)) × IsAtEnd (stream buffer.new.bytes (L.left link.new)))
+        (TakesRequest (stream buffer.old.bytes (L.left link.old)) (stream buffer.new.bytes (L.left link.new)))) }
+    ensures fault { IfErr result (λ e. buffer.old.faulted ≡ false → FaultOf (stream buffer.old.bytes (L.left link.old)) e) }
+    ensures cause { result ≡ Err HttpFault.LinkFault → Rose (L.faults link.old) (L.faults link.new) }
+    ensures later { L.faults link.old ≤ L.faults link.new }
+    ensures written { L.taken link.new ≡ L.taken link.old }
+    ensures place { L.dial link.new ≡ L.dial link.old }
+    ensures faulted { buffer.new.faulted ≡ is_err result }
+
+    // A faulted buffer answers at once.
+    ensures spent { buffer.old.faulted ≡ true → result ≡ Err (HttpFault.Ended 0) }
+    ensures still { buffer.old.faulted ≡ true → link.new ≡ link.old }
+{
+    Err(HttpFault::NoMemory)
+}

@@ -1,0 +1,32 @@
+//! The one response on a link.
+ghost use Rattle.std.specs.Prelude.{◌≡◌, ◌≤◌, Err, IfOk, IfErr};
+ghost use Rattle.outside.specs.Causes.{Rose};
+ghost use Rattle.http_reading.specs.Responses.{HearsAnswer, HearsFault};
+
+use super::fault::HttpFault;
+use job_values::Seq;
+use outside::Link;
+use std::alloc::Global;
+
+/// A response.
+#[derive(Debug, Drop)]
+pub struct Response {
+    pub status: u16,
+    pub body: Seq<u8>,
+}
+
+/// Reads the response at the front of what the link gives. A body of which its head says nothing goes to
+/// the link's end. No byte at all is `Ended { taken: 0 }`.
+pub fn read_response<L: Link>(alloc: Global, link: &mut L) -> Result<Response, HttpFault>
+    // The bytes that this call read begin with the response, or have the fault.
+    ensures response { IfOk result (HearsAnswer (L.left link.old) (L.left link.new)
+        (L.seen link.old) (L.seen link.new) (L.met link.old) (L.met link.new)) }
+    ensures fault { IfErr result (HearsFault (L.left link.old) (L.left link.new)
+        (L.seen link.old) (L.seen link.new) (L.met link.old) (L.met link.new)) }
+    ensures cause { result ≡ Err HttpFault.LinkFault → Rose (L.faults link.old) (L.faults link.new) }
+    ensures later { L.faults link.old ≤ L.faults link.new }
+    ensures written { L.taken link.new ≡ L.taken link.old }
+    ensures place { L.dial link.new ≡ L.dial link.old }
+{
+    Err(HttpFault::NoMemory)
+}

@@ -1,0 +1,9 @@
+//! Both ends of HTTP: requests and responses read from links, responses written, and requests asked of
+//! an address.
+#![tactic(auto)]
+
+mod address;
+mod laws;
+
+pub use http_reading::{HttpFault, Response};
+pub use laws::law_one_address;

@@ -3,7 +3,10 @@
 #![tactic(auto)]
 
 mod address;
+mod asking;
 mod laws;
+mod writing;
 
 pub use http_reading::{HttpFault, Response};
 pub use laws::law_one_address;
+pub use writing::write_response;

@@ -24,6 +24,14 @@ pub record Exchanged (text written read : List ℕ) (met faulted : Bool) (result
   pub answer : IsAnswer read met result
   pub cause : result ≡ Err LinkFault → faulted ≡ true
 
+-- what a link tells that was fresh and carried this
+pub record Carries (text : List ℕ) (seen taken : Option (List ℕ)) (met faulted : Bool) (result : Result Response HttpFault) : Type 0 where
+  pub written : List ℕ
+  pub read : List ℕ
+  pub seen_is : seen ≡ Some read
+  pub taken_is : taken ≡ Some written
+  pub exchanged : Exchanged text written read met faulted result
+
 -- what a dial shows whose link carried this
 pub record ShowsExchange (shown : Option Shown) (text : List ℕ) (result : Result Response HttpFault) : Type 0 where
   pub told : Shown

@@ -7,6 +7,7 @@ mod asking;
 mod laws;
 mod writing;
 
+pub use asking::{AskFault, ask};
 pub use http_reading::{HttpFault, Response};
 pub use laws::law_one_address;
 pub use writing::write_response;

@@ -1,3 +1,5 @@
 pub mod DrawLemmas
 pub mod FieldLemmas
 pub mod HeadLemmas
+pub mod BodyLemmas
+pub mod OuterLemmas

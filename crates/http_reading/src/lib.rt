@@ -2,6 +2,8 @@
 //! length, in chunks or to the link's end, and the first fault of bytes that are none.
 #![tactic(auto)]
 
+mod body;
+mod chunks;
 mod fault;
 mod fields;
 mod fill;

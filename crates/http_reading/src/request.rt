@@ -2,9 +2,13 @@
 ghost use Rattle.std.specs.Prelude.{◌≡◌, ◌≤◌, [], true, false, Err, is_err, IfOk, IfErr, MatchOption};
 ghost use Rattle.std.specs.Io.KnownBytes.{IsAtEnd};
 ghost use Rattle.outside.specs.Causes.{Rose};
-ghost use Rattle.http_reading.specs.Requests.{stream, TakesRequest, FaultOf};
+ghost use Rattle.http_reading.specs.Draws.{Fails};
+ghost use Rattle.http_reading.specs.Heads.{HeadRead};
+ghost use Rattle.http_reading.specs.Requests.{HeadFault, stream, TakesRequest, FaultOf};
 
 use super::fault::HttpFault;
+use super::fill::fill_line;
+use super::head::{Head, parse_head};
 use job_values::Seq;
 use outside::Link;
 use std::alloc::Global;
@@ -46,6 +50,30 @@ impl HttpBuffer {
             bytes: Vec::new(alloc),
             faulted: false,
         }
+    }
+}
+
+/// Reads until a head is whole; `None` where the link ends and there is no byte.
+fn read_head<L: Link>(
+    alloc: Global,
+    link: &mut L,
+    bytes: &mut Vec<u8>,
+) -> Result<Option<Head>, HttpFault>
+    ensures ok { IfOk result (HeadRead L.left L.seen L.taken L.met L.dial L.faults link.old link.new bytes.old.items bytes.new.items) }
+    ensures err { IfErr result (Fails L.left L.seen L.taken L.met L.dial L.faults link.old link.new bytes.old.items HeadFault) }
+{
+    let mut ended = false;
+    loop {
+        if let Some(head) = parse_head(alloc, bytes.as_slice())? {
+            return Ok(Some(head));
+        }
+        if ended {
+            return match bytes.len() {
+                0 => Ok(None),
+                taken => Err(HttpFault::Ended { taken }),
+            };
+        }
+        ended = fill_line(link, bytes, 0)?;
     }
 }
 

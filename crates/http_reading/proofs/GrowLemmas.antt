@@ -1,6 +1,8 @@
 -- More bytes behind those that were read change neither a message at their front nor its fault.
 use Rattle.std.proofs.Common.{◌≡◌, ◌≢◌, ℕ, ◌+◌, ◌-◌, ◌<◌, ◌≤◌, ◌⊎◌, Bool, true, false, List, [], ◌∷◌, ◌++◌, length, take, drop, refl, sym, ap, ◌∙◌, subst, arith, append_assoc, append-nil, length-append, length-take, take-append-drop, inl, inr}
-use Rattle.std.proofs.lemmas.List.{take-append-le}
+use Rattle.std.proofs.lemmas.List.{take-append-le, take_all}
+use Rattle.std.proofs.lemmas.Bool.{cases_lt}
+use Rattle.std.proofs.Math.Seq.{take-append-add}
 use Rattle.httparse.specs.Grammar.{ChunkLine, RequestHead, ReadsChunkLine, HasNoChunkLine, MayBecomeChunkLine, NeverHasChunkLine, ReadsRequest, NeverHasRequest, HasNoRequest, MayBecomeRequest, print_end, lf}
 use Rattle.httparse.specs.Spans.{RequestOverflows, RequestExceeds}
 use Rattle.httparse.proofs.GrammarLemmas.{ReadsRequest-append}
@@ -20,7 +22,15 @@ not_so e = let never : ⊥ = cc in absurd never
 
 -- the first n of more bytes: the first n, and then some more
 take_front : (n : ℕ) (xs ys : List ℕ) → (zs : List ℕ) × (take n (xs ++ ys) ≡ take n xs ++ zs)
-take_front n xs ys = (drop (length (take n xs)) (take n (xs ++ ys)), ?)
+take_front n xs ys =
+    elim (cases_lt (length xs) n) [
+      | inl past ↦
+          let many : n ≡ length xs + (n - length xs) = omega arith in
+          (take (n - length xs) ys,
+          ap (λ (k : ℕ). take k (xs ++ ys)) many ∙ take-append-add xs ys (n - length xs)
+          ∙ ap (λ (t : List ℕ). t ++ take (n - length xs) ys) (sym (take_all n xs (omega arith))))
+      | inr within ↦ ([], take-append-le n xs ys within ∙ sym (append-nil (take n xs)))
+    ]
 
 -- ---- chunks
 

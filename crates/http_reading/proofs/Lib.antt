@@ -4,5 +4,6 @@ pub mod HeadLemmas
 pub mod GrowLemmas
 pub mod StreamLemmas
 pub mod TakeLemmas
+pub mod AnswerLemmas
 pub mod BodyLemmas
 pub mod OuterLemmas

@@ -5,6 +5,7 @@ ghost use Rattle.http_reading.specs.Draws.{Fails};
 ghost use Rattle.http_reading.specs.Heads.{TopRead};
 ghost use Rattle.http_reading.specs.Responses.{TopFault, HearsAnswer, HearsFault};
 
+use super::body::read_body;
 use super::fault::HttpFault;
 use super::fill::fill_line;
 use super::top::{Top, parse_top};
@@ -49,5 +50,11 @@ pub fn read_response<L: Link>(alloc: Global, link: &mut L) -> Result<Response, H
     ensures written { L.taken link.new ≡ L.taken link.old }
     ensures place { L.dial link.new ≡ L.dial link.old }
 {
-    Err(HttpFault::NoMemory)
+    let mut bytes = Vec::new(alloc);
+    let top = read_top(link, &mut bytes)?;
+    let body = read_body(alloc, link, &mut bytes, top.len, top.plan)?;
+    Ok(Response {
+        status: top.status,
+        body: body.bytes,
+    })
 }

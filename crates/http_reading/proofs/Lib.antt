@@ -5,5 +5,7 @@ pub mod GrowLemmas
 pub mod StreamLemmas
 pub mod TakeLemmas
 pub mod AnswerLemmas
+pub mod LineLemmas
+pub mod CloseLemmas
 pub mod BodyLemmas
 pub mod OuterLemmas

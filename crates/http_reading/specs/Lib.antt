@@ -8,4 +8,5 @@ pub mod Requests
 pub mod Responses
 pub mod Heads
 pub mod BodyReads
+pub mod ChunkReads
 pub mod Laws

@@ -4,6 +4,7 @@
 
 mod body;
 mod chunks;
+mod close;
 mod fault;
 mod fields;
 mod fill;
@@ -11,6 +12,7 @@ mod head;
 mod plan;
 mod request;
 mod response;
+mod size_line;
 mod top;
 
 pub use fault::HttpFault;

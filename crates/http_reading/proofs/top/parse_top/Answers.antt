@@ -1,4 +1,5 @@
 use Rattle.std.proofs.Common.{sym, subst, inl, refl, ap, ◌∙◌, map, List, ℕ, take}
+use Rattle.httparse.specs.declared.Error.{Error}
 use Rattle.httparse.specs.Grammar.{HasNoResponse, MayBecomeResponse}
 use Rattle.httparse.specs.Spans.{IsResponseWithin, IsResponseOf}
 use Rattle.httparse.specs.Spans.{header_bytes}
@@ -15,8 +16,8 @@ returns-in-Ok-Complete-clause-ok c =
     let is = c.front-text.ensures in
     let t1 = c.in-Ok-Complete.field-0-is in
     response_head_at c.args.bytes.now headers spans _ c.parse_response.auto.headers
-    (subst (λ t. IsResponseWithin t headers spans) is (complete_is (IsResponseWithin text headers) c.in-Ok-Complete.field-0 spans t1 e.within))
-    (subst (λ t. IsResponseOf t headers spans) is (complete_is (IsResponseOf text headers) c.in-Ok-Complete.field-0 spans t1 e.complete))
+    (subst (λ t. IsResponseWithin t headers spans) is (complete_is Error (IsResponseWithin text headers) c.in-Ok-Complete.field-0 spans t1 e.within))
+    (subst (λ t. IsResponseOf t headers spans) is (complete_is Error (IsResponseOf text headers) c.in-Ok-Complete.field-0 spans t1 e.complete))
     refl refl
     (c.of_response.ensures ∙ ap to_end c.plan_of.ensures ∙ ap (λ t. to_end (plan_of (map (header_bytes t) (take spans.headers headers)))) is)
 
@@ -25,7 +26,7 @@ returns-then-bytes-lt-MOST_LINE-clause-ok c =
     let p = c.in-Ok-Partial in
     let text = c.front-text.result.now in
     open_top c.args.bytes.now text c.front-text.ensures c.if-bytes-lt-MOST_LINE.true
-    (partial_is (HasNoResponse text) p.field-0 p.field-0-is p.ensures.partial) (partial_is (MayBecomeResponse text) p.field-0 p.field-0-is p.ensures.unfinished)
+    (partial_is Error (HasNoResponse text) p.field-0 p.field-0-is p.ensures.partial) (partial_is Error (MayBecomeResponse text) p.field-0 p.field-0-is p.ensures.unfinished)
 
 pub returns-else-bytes-lt-MOST_LINE-clause-err : goal.returns-else-bytes-lt-MOST_LINE-clause-err
 returns-else-bytes-lt-MOST_LINE-clause-err c =
@@ -33,4 +34,4 @@ returns-else-bytes-lt-MOST_LINE-clause-err c =
     let text = c.front-text.result.now in
     (λ e. let never : ⊥ = cc in absurd never,
     λ ended. inl (long_top c.args.bytes.now text c.front-text.ensures c.if-bytes-lt-MOST_LINE.false
-    (partial_is (HasNoResponse text) p.field-0 p.field-0-is p.ensures.partial) (partial_is (MayBecomeResponse text) p.field-0 p.field-0-is p.ensures.unfinished)))
+    (partial_is Error (HasNoResponse text) p.field-0 p.field-0-is p.ensures.partial) (partial_is Error (MayBecomeResponse text) p.field-0 p.field-0-is p.ensures.unfinished)))

@@ -119,16 +119,24 @@ module _ {A : Type 0} {left seen taken : A → Option (List ℕ)} {met : A → B
   fails_here {holds = holds} {e = e} IsFault fault draws own is =
       record { holds = holds; ended = e; draws = draws; cause = λ same. absurd (own same); is = is }
 
-  -- a fault of a later step
+  -- a fault of a later step, which says of the bytes then what the first step did not
+  pub fails_grown : {a b c : A} {held mid : List ℕ} {e : Bool} {IsFault : List ℕ → Bool → HttpFault → Type 0}
+      (IsFault' : List ℕ → Bool → HttpFault → Type 0) {fault : HttpFault}
+      → Draws left seen taken met dial faults a b held mid e → Fails left seen taken met dial faults b c mid IsFault fault
+      → ((holds : List ℕ) (f : Bool) (bytes : List ℕ) → holds ≡ mid ++ bytes → IsFault holds f fault → IsFault' holds (e || f) fault)
+      → Fails left seen taken met dial faults a c held IsFault' fault
+  fails_grown {a} {b} {c} {e = e} IsFault' draws fails more = record {
+    holds = fails.holds;
+    ended = e || fails.ended;
+    draws = draws_more draws fails.draws;
+    cause = λ same. omega (arith, draws.later, fails.cause same);
+    is = more fails.holds fails.ended fails.draws.bytes fails.draws.grown fails.is;
+  }
+
+  -- the same, where the first step does not matter
   pub fails_after : {a b c : A} {held mid : List ℕ} {e : Bool} {IsFault : List ℕ → Bool → HttpFault → Type 0}
       (IsFault' : List ℕ → Bool → HttpFault → Type 0) {fault : HttpFault}
       → Draws left seen taken met dial faults a b held mid e → Fails left seen taken met dial faults b c mid IsFault fault
       → ((holds : List ℕ) (f : Bool) → IsFault holds f fault → IsFault' holds (e || f) fault)
       → Fails left seen taken met dial faults a c held IsFault' fault
-  fails_after {a} {b} {c} {e = e} IsFault' draws fails more = record {
-    holds = fails.holds;
-    ended = e || fails.ended;
-    draws = draws_more draws fails.draws;
-    cause = λ same. omega (arith, draws.later, fails.cause same);
-    is = more fails.holds fails.ended fails.is;
-  }
+  fails_after IsFault' draws fails more = fails_grown IsFault' draws fails (λ holds f bytes grown is. more holds f is)

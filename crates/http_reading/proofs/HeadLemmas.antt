@@ -1,13 +1,12 @@
 -- From what the parser tells of the first 16,384 bytes to the head of all of them.
-use Rattle.std.proofs.Common.{◌≡◌, ◌≢◌, ℕ, ◌+◌, ◌-◌, ◌<◌, ◌≤◌, Bool, List, [], ◌∷◌, ◌++◌, length, take, drop, map, min, refl, sym, ap, ◌∙◌, subst, arith, length-take, length-drop, length-append, take-append-drop, Result, Ok, Err}
+use Rattle.std.proofs.Common.{◌≡◌, ◌≢◌, ℕ, ◌+◌, ◌-◌, ◌<◌, ◌≤◌, Bool, true, false, List, [], ◌∷◌, ◌++◌, length, take, drop, map, min, refl, sym, ap, ◌∙◌, subst, arith, length-take, length-drop, length-append, take-append-drop, Result, Ok, Err}
 use Rattle.std.proofs.lemmas.List.{drop-append-le, length-map, take_all}
 use Rattle.httparse.specs.declared.spans.HeaderSpan.{HeaderSpan}
 use Rattle.httparse.specs.declared.spans.RequestSpans.{RequestSpans}
 use Rattle.httparse.specs.declared.spans.ResponseSpans.{ResponseSpans}
-use Rattle.httparse.specs.declared.Error.{Error}
 use Rattle.httparse.specs.declared.Status.{Status}
 use Rattle.httparse.specs.declared.Status.TheVariants.{Complete, Partial}
-use Rattle.httparse.specs.Outcome.{IfComplete, OnPartial}
+use Rattle.httparse.specs.Outcome.{IfComplete, OnPartial, is_complete}
 use Rattle.httparse.specs.Grammar.{Field, ReadsRequest, HasNoRequest, MayBecomeRequest, ReadsResponse, HasNoResponse, MayBecomeResponse}
 use Rattle.http_reading.specs.Requests.{OpenHead, LongHead}
 use Rattle.http_reading.specs.Responses.{OpenTop, LongTop}
@@ -87,11 +86,11 @@ response_head_at bytes headers spans top room within of size status plan =
 
 -- ---- answers of the parser, by their cases
 
-pub complete_is : {A : Type 0} (P : A → Type 0) (f : Status A) (x : A) → f ≡ Complete x → IfComplete {E = Error} (Ok f) P → P x
-complete_is P f x e h = subst (λ s. IfComplete {E = Error} (Ok s) P) e h
+pub complete_is : {A : Type 0} (E : Type 0) (P : A → Type 0) (f : Status A) (x : A) → f ≡ Complete x → IfComplete {E = E} (Ok f) P → P x
+complete_is E P f x e h = subst (λ s. IfComplete {E = E} (Ok s) P) e h
 
-pub partial_is : {A : Type 0} (P : Type 0) (f : Status A) → f ≡ Partial → OnPartial {E = Error} (Ok f) P → P
-partial_is P f e h = subst (λ s. OnPartial {E = Error} (Ok s) P) e h
+pub partial_is : {A : Type 0} (E P : Type 0) (f : Status A) → f ≡ Partial → OnPartial {E = E} (Ok f) P → P
+partial_is E P f e h = subst (λ s. OnPartial {E = E} (Ok s) P) e h
 
 pub open_head : (bytes text : List ℕ) → text ≡ take most_line bytes → length bytes < 16384 → HasNoRequest text → MayBecomeRequest text → OpenHead bytes
 open_head bytes text e few none some =
@@ -110,3 +109,7 @@ open_top bytes text e few none some =
 pub long_top : (bytes text : List ℕ) → text ≡ take most_line bytes → 16384 ≤ length bytes → HasNoResponse text → MayBecomeResponse text → LongTop bytes
 long_top bytes text e many none some =
     record { many = many; none = subst HasNoResponse e none; some = subst MayBecomeResponse e some }
+
+pub not_complete : {A : Type 0} (f : Status A) → is_complete f ≡ false → f ≡ Partial
+not_complete (Complete x) e = let never : ⊥ = cc in absurd never
+not_complete Partial e = refl

@@ -1,3 +1,11 @@
 pub mod DrawLemmas
 pub mod FieldLemmas
 pub mod HeadLemmas
+pub mod GrowLemmas
+pub mod StreamLemmas
+pub mod TakeLemmas
+pub mod AnswerLemmas
+pub mod LineLemmas
+pub mod CloseLemmas
+pub mod BodyLemmas
+pub mod OuterLemmas

@@ -1,11 +1,12 @@
 -- Heads that were parsed, as the parser's spans tell them.
-use Rattle.std.specs.Prelude.{ℕ, ◌≡◌, ◌≢◌, ◌≤◌, Bool, List, length, drop, map}
+use Rattle.std.specs.Prelude.{ℕ, ◌≡◌, ◌≢◌, ◌≤◌, Bool, true, List, [], length, drop, map, Option, MatchOption}
 use Rattle.httparse.specs.declared.spans.HeaderSpan.{HeaderSpan}
 use Rattle.httparse.specs.declared.spans.RequestSpans.{RequestSpans}
 use Rattle.httparse.specs.Grammar.{RequestHead, print_request, ResponseHead, print_response, status_code}
 use Rattle.httparse.specs.Spans.{span_bytes, header_bytes}
 use Rattle.http_reading.specs.Plans.{fields_of, plan_of, token_of, closes, to_end}
 use Rattle.http_reading.specs.Requests.{ReadsHead, HeadFault}
+use Rattle.http_reading.specs.Draws.{Draws}
 use Rattle.http_reading.specs.Responses.{ReadsTop, TopFault}
 use Rattle.http_reading.specs.declared.head.Head.{Head}
 use Rattle.http_reading.specs.declared.top.Top.{Top}
@@ -49,3 +50,17 @@ pub record TopAt (bytes : List ℕ) (top : Top) : Type 0 where
 -- the fault that the bytes have, whether more can come or not
 abbrev pub TopRefused : List ℕ → HttpFault → Type 0
 TopRefused bytes fault = (fault ≢ LinkFault) × ((ended : Bool) → TopFault bytes ended fault)
+
+-- a call read so far: the bytes begin with this head, or there are none and the link has ended
+pub record HeadRead {A : Type 0} (left seen taken : A → Option (List ℕ)) (met : A → Bool) (dial faults : A → ℕ)
+    (before now : A) (held holds : List ℕ) (head : Option Head) : Type 0 where
+  pub ended : Bool
+  pub draws : Draws left seen taken met dial faults before now held holds ended
+  pub is : MatchOption head ((ended ≡ true) × (holds ≡ [])) (HeadAt holds)
+
+-- a call read so far: the bytes begin with this head
+pub record TopRead {A : Type 0} (left seen taken : A → Option (List ℕ)) (met : A → Bool) (dial faults : A → ℕ)
+    (before now : A) (held holds : List ℕ) (top : Top) : Type 0 where
+  pub ended : Bool
+  pub draws : Draws left seen taken met dial faults before now held holds ended
+  pub is : TopAt holds top

@@ -7,4 +7,6 @@ pub mod Bodies
 pub mod Requests
 pub mod Responses
 pub mod Heads
+pub mod BodyReads
+pub mod ChunkReads
 pub mod Laws

@@ -1,9 +1,10 @@
 -- Requests at the front of bytes, and the faults of bytes that begin with none.
-use Rattle.std.specs.Prelude.{ℕ, ◌≡◌, ◌<◌, ◌≤◌, ◌⊎◌, Bool, true, false, List, [], ◌++◌, length, take, Option, Some, None}
-use Rattle.std.specs.Io.KnownBytes.{prepend_known, IsAtEnd}
+use Rattle.std.specs.Prelude.{ℕ, ◌≡◌, ◌<◌, ◌≤◌, ◌⊎◌, Bool, true, false, List, [], ◌++◌, length, take, Option, Some, None, MatchOption}
+use Rattle.std.specs.Io.KnownBytes.{prepend_known}
 use Rattle.httparse.specs.Grammar.{RequestHead, print_request, ReadsRequest, HasNoRequest, NeverHasRequest, MayBecomeRequest}
 use Rattle.httparse.specs.Spans.{RequestOverflows, RequestExceeds}
 use Rattle.http_reading.specs.Plans.{most_line, most_fields, fields_of, plan_of, token_of, closes}
+use Rattle.http_reading.specs.Draws.{Draws}
 use Rattle.http_reading.specs.Bodies.{ReadsBody, BodyFault}
 use Rattle.http_reading.specs.declared.request.Request.{Request}
 use Rattle.http_reading.specs.declared.fault.HttpFault.{HttpFault}
@@ -73,7 +74,22 @@ TakesRequest None after request = Unit {0}
 TakesRequest (Some bytes) None request = ⊥
 TakesRequest (Some bytes) (Some rest) request = Reads bytes request rest
 
+-- no byte is in either stream, where they are told
+abbrev pub TakesNone : Option (List ℕ) → Option (List ℕ) → Type 0
+TakesNone None after = Unit {0}
+TakesNone (Some bytes) None = ⊥
+TakesNone (Some bytes) (Some rest) = (bytes ≡ []) × (rest ≡ [])
+
 -- the stream has this fault, where it is told
 abbrev pub FaultOf : Option (List ℕ) → HttpFault → Type 0
 FaultOf None fault = Unit {0}
 FaultOf (Some bytes) fault = HasFault bytes true fault
+
+-- a call read so far: the bytes begin with this request, and what follows it stays held; or there are none
+-- and the link has ended
+pub record Took {A : Type 0} (left seen taken : A → Option (List ℕ)) (met : A → Bool) (dial faults : A → ℕ)
+    (before now : A) (held holds : List ℕ) (request : Option Request) : Type 0 where
+  pub bytes : List ℕ
+  pub ended : Bool
+  pub draws : Draws left seen taken met dial faults before now held bytes ended
+  pub is : MatchOption request ((ended ≡ true) × (bytes ≡ []) × (holds ≡ [])) (λ r. Reads bytes r holds)

@@ -12,6 +12,7 @@ const PIECE: usize = 8_192;
 /// Reads once. Answers whether the link has ended.
 pub(crate) fn fill<L: Link>(link: &mut L, bytes: &mut Vec<u8>) -> Result<bool, HttpFault>
     ensures ok { IfOk result (Came L.left L.seen L.taken L.met L.dial L.faults link.old link.new bytes.old.items bytes.new.items) }
+    ensures same { IfOk result (λ ended. ended ≡ true → bytes.new.items ≡ bytes.old.items) }
     ensures err { IfErr result (Fails L.left L.seen L.taken L.met L.dial L.faults link.old link.new bytes.old.items Outer) }
 {
     let mut piece = [0u8; PIECE];

@@ -2,6 +2,9 @@
 //! length, in chunks or to the link's end, and the first fault of bytes that are none.
 #![tactic(auto)]
 
+mod body;
+mod chunks;
+mod close;
 mod fault;
 mod fields;
 mod fill;
@@ -9,6 +12,7 @@ mod head;
 mod plan;
 mod request;
 mod response;
+mod size_line;
 mod top;
 
 pub use fault::HttpFault;

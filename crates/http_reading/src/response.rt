@@ -1,9 +1,14 @@
 //! The one response on a link.
 ghost use Rattle.std.specs.Prelude.{◌≡◌, ◌≤◌, Err, IfOk, IfErr};
 ghost use Rattle.outside.specs.Causes.{Rose};
-ghost use Rattle.http_reading.specs.Responses.{HearsAnswer, HearsFault};
+ghost use Rattle.http_reading.specs.Draws.{Fails};
+ghost use Rattle.http_reading.specs.Heads.{TopRead};
+ghost use Rattle.http_reading.specs.Responses.{TopFault, HearsAnswer, HearsFault};
 
+use super::body::read_body;
 use super::fault::HttpFault;
+use super::fill::fill_line;
+use super::top::{Top, parse_top};
 use job_values::Seq;
 use outside::Link;
 use std::alloc::Global;
@@ -13,6 +18,23 @@ use std::alloc::Global;
 pub struct Response {
     pub status: u16,
     pub body: Seq<u8>,
+}
+
+/// Reads until a head is whole.
+fn read_top<L: Link>(link: &mut L, bytes: &mut Vec<u8>) -> Result<Top, HttpFault>
+    ensures ok { IfOk result (TopRead L.left L.seen L.taken L.met L.dial L.faults link.old link.new bytes.old.items bytes.new.items) }
+    ensures err { IfErr result (Fails L.left L.seen L.taken L.met L.dial L.faults link.old link.new bytes.old.items TopFault) }
+{
+    let mut ended = false;
+    loop {
+        if let Some(top) = parse_top(bytes.as_slice())? {
+            return Ok(top);
+        }
+        if ended {
+            return Err(HttpFault::Ended { taken: bytes.len() });
+        }
+        ended = fill_line(link, bytes, 0)?;
+    }
 }
 
 /// Reads the response at the front of what the link gives. A body of which its head says nothing goes to
@@ -28,5 +50,11 @@ pub fn read_response<L: Link>(alloc: Global, link: &mut L) -> Result<Response, H
     ensures written { L.taken link.new ≡ L.taken link.old }
     ensures place { L.dial link.new ≡ L.dial link.old }
 {
-    Err(HttpFault::NoMemory)
+    let mut bytes = Vec::new(alloc);
+    let top = read_top(link, &mut bytes)?;
+    let body = read_body(alloc, link, &mut bytes, top.len, top.plan)?;
+    Ok(Response {
+        status: top.status,
+        body: body.bytes,
+    })
 }

@@ -8,6 +8,6 @@ mod laws;
 mod writing;
 
 pub use asking::{AskFault, ask};
-pub use http_reading::{HttpFault, Response};
+pub use http_reading::{HttpBuffer, HttpFault, Request, Response, read_request};
 pub use laws::law_one_address;
 pub use writing::write_response;

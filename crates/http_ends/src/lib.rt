@@ -5,6 +5,8 @@
 mod address;
 mod asking;
 mod laws;
+#[cfg(test)]
+mod tests;
 mod writing;
 
 pub use asking::{AskFault, ask};

@@ -7,5 +7,7 @@ pub mod TakeLemmas
 pub mod AnswerLemmas
 pub mod LineLemmas
 pub mod CloseLemmas
+pub mod ChunkLemmas
+pub mod ChunkedLemmas
 pub mod BodyLemmas
 pub mod OuterLemmas

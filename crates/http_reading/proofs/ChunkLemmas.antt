@@ -107,33 +107,33 @@ close_fault at before holds e f line (BadBody place) is few inside h =
     let chunk : OpenChunk before tail is.is rest = record { reads = is.reads; few = omega (arith, is.size_is) } in
     elim h.1.2 [
       | inl x ↦ (
-          length (print_chunk_line is.is) + length content,
-          omega (arith, x.2, is.len_is, size),
-          inr (record {
-            line = is.is;
-            rest = rest;
-            chunk = chunk;
-            content = content;
-            byte = h.1.0;
-            more = h.1.1;
-            size = size ∙ is.size_is;
-            is = inl (parts ∙ ap (λ (t : List ℕ). content ++ t) x.0, x.1, refl);
-          }),
-        )
+        length (print_chunk_line is.is) + length content,
+        omega (arith, x.2, is.len_is, size),
+        inr (record {
+          line = is.is;
+          rest = rest;
+          chunk = chunk;
+          content = content;
+          byte = h.1.0;
+          more = h.1.1;
+          size = size ∙ is.size_is;
+          is = inl (parts ∙ ap (λ (t : List ℕ). content ++ t) x.0, x.1, refl);
+        }),
+      )
       | inr x ↦ (
-          length (print_chunk_line is.is) + length content + 1,
-          omega (arith, x.2, is.len_is, size),
-          inr (record {
-            line = is.is;
-            rest = rest;
-            chunk = chunk;
-            content = content;
-            byte = h.1.0;
-            more = h.1.1;
-            size = size ∙ is.size_is;
-            is = inr (parts ∙ ap (λ (t : List ℕ). content ++ t) x.0, x.1, refl);
-          }),
-        )
+        length (print_chunk_line is.is) + length content + 1,
+        omega (arith, x.2, is.len_is, size),
+        inr (record {
+          line = is.is;
+          rest = rest;
+          chunk = chunk;
+          content = content;
+          byte = h.1.0;
+          more = h.1.1;
+          size = size ∙ is.size_is;
+          is = inr (parts ∙ ap (λ (t : List ℕ). content ++ t) x.0, x.1, refl);
+        }),
+      )
     ]
 close_fault at before holds e f line LinkFault is few inside h = tt
 close_fault at before holds e f line NoMemory is few inside h = tt
@@ -182,7 +182,7 @@ module _ {A : Type 0} {left seen taken : A → Option (List ℕ)} {met : A → B
       → Closed left seen taken met dial faults b c mid holds (at + line.len + line.size)
       → slice ≡ holds → whole ≡ body ++ take ((at + line.len + line.size) - (at + line.len)) (drop (at + line.len) slice)
       → ChunkRead left seen taken met dial faults a c held holds at body whole
-        (record { end = at + line.len + line.size + 2; last = eqb line.size 0 })
+      (record { end = at + line.len + line.size + 2; last = eqb line.size 0 })
   chunk_read a b c held mid holds body whole slice at line inside few read closed same added =
       let in_mid = at_inside a b held mid read.ended at inside read.draws in
       let is = line_grown mid closed.draws.bytes holds at line in_mid closed.draws.grown read.is in

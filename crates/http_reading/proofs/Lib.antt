@@ -9,5 +9,7 @@ pub mod LineLemmas
 pub mod CloseLemmas
 pub mod ChunkLemmas
 pub mod ChunkedLemmas
+pub mod UniqueLemmas
+pub mod LawLemmas
 pub mod BodyLemmas
 pub mod OuterLemmas

@@ -140,3 +140,17 @@ module _ {A : Type 0} {left seen taken : A → Option (List ℕ)} {met : A → B
       → ((holds : List ℕ) (f : Bool) → IsFault holds f fault → IsFault' holds (e || f) fault)
       → Fails left seen taken met dial faults a c held IsFault' fault
   fails_after IsFault' draws fails more = fails_grown IsFault' draws fails (λ holds f bytes grown is. more holds f is)
+
+  -- the same fault in other words
+  pub fails_as : {a b : A} {held : List ℕ} {IsFault : List ℕ → Bool → HttpFault → Type 0}
+      (IsFault' : List ℕ → Bool → HttpFault → Type 0) {fault : HttpFault}
+      → Fails left seen taken met dial faults a b held IsFault fault
+      → ((holds : List ℕ) (f : Bool) → IsFault holds f fault → IsFault' holds f fault)
+      → Fails left seen taken met dial faults a b held IsFault' fault
+  fails_as IsFault' fails as_other = record {
+    holds = fails.holds;
+    ended = fails.ended;
+    draws = fails.draws;
+    cause = fails.cause;
+    is = as_other fails.holds fails.ended fails.is;
+  }

@@ -25,10 +25,11 @@ take_front : (n : ℕ) (xs ys : List ℕ) → (zs : List ℕ) × (take n (xs ++ 
 take_front n xs ys =
     elim (cases_lt (length xs) n) [
       | inl past ↦
-          let many : n ≡ length xs + (n - length xs) = omega arith in
-          (take (n - length xs) ys,
-          ap (λ (k : ℕ). take k (xs ++ ys)) many ∙ take-append-add xs ys (n - length xs)
-          ∙ ap (λ (t : List ℕ). t ++ take (n - length xs) ys) (sym (take_all n xs (omega arith))))
+          let many : n ≡ length xs + (n - length xs) = omega arith in (
+            take (n - length xs) ys,
+            ap (λ (k : ℕ). take k (xs ++ ys)) many ∙ take-append-add xs ys (n - length xs)
+                ∙ ap (λ (t : List ℕ). t ++ take (n - length xs) ys) (sym (take_all n xs (omega arith))),
+          )
       | inr within ↦ ([], take-append-le n xs ys within ∙ sym (append-nil (take n xs)))
     ]
 

@@ -7,5 +7,9 @@ pub mod TakeLemmas
 pub mod AnswerLemmas
 pub mod LineLemmas
 pub mod CloseLemmas
+pub mod ChunkLemmas
+pub mod ChunkedLemmas
+pub mod UniqueLemmas
+pub mod LawLemmas
 pub mod BodyLemmas
 pub mod OuterLemmas

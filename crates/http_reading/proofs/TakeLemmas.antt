@@ -73,7 +73,7 @@ module _ {A : Type 0} {left seen taken : A → Option (List ℕ)} {met : A → B
       → BodyRead left seen taken met dial faults b c mid holds head.plan head.len body
       → rest ≡ drop body.end holds
       → Took left seen taken met dial faults a c held rest
-        (Some (record { method = head.method; path = head.path; token = head.token; close = head.close; body = body.bytes }))
+      (Some (record { method = head.method; path = head.path; token = head.token; close = head.close; body = body.bytes }))
   took_both a b c held mid holds rest head body h r e =
       let at = h.is in
       record {

@@ -9,13 +9,17 @@ mod fault;
 mod fields;
 mod fill;
 mod head;
+mod laws;
 mod plan;
 mod request;
 mod response;
 mod size_line;
+#[cfg(test)]
+mod tests;
 mod top;
 
 pub use fault::HttpFault;
+pub use laws::{law_no_fault, law_one_request};
 pub use plan::{BodyPlan, MOST_BODY, MOST_FIELDS, MOST_LINE};
 pub use request::{HttpBuffer, Request, read_request};
 pub use response::{Response, read_response};

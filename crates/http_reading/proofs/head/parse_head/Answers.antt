@@ -31,7 +31,8 @@ returns-then-bytes-lt-MOST_LINE-clause-ok c =
 pub returns-else-bytes-lt-MOST_LINE-clause-err : goal.returns-else-bytes-lt-MOST_LINE-clause-err
 returns-else-bytes-lt-MOST_LINE-clause-err c =
     let p = c.in-Ok-Partial in
-    let text = c.front-text.result.now in
-    (λ e. let never : ⊥ = cc in absurd never,
-    λ ended. inl (long_head c.args.bytes.now text c.front-text.ensures c.if-bytes-lt-MOST_LINE.false
-    (partial_is Error (HasNoRequest text) p.field-0 p.field-0-is p.ensures.partial) (partial_is Error (MayBecomeRequest text) p.field-0 p.field-0-is p.ensures.unfinished)))
+    let text = c.front-text.result.now in (
+      λ e. let never : ⊥ = cc in absurd never,
+      λ ended. inl (long_head c.args.bytes.now text c.front-text.ensures c.if-bytes-lt-MOST_LINE.false
+          (partial_is Error (HasNoRequest text) p.field-0 p.field-0-is p.ensures.partial) (partial_is Error (MayBecomeRequest text) p.field-0 p.field-0-is p.ensures.unfinished)),
+    )

@@ -35,7 +35,7 @@ fn main(rt: HostRuntime) -> io::Result<()> {
             "cron" => cron::run(&rt, alloc, 200_000, true)?,
             "parts" => parts::run(&rt, alloc, 2_000_000, true)?,
             "messages" => messages::run(&rt, alloc, 1_000, true)?,
-            "requests" => requests::run(&rt, alloc, 100_000, true)?,
+            "requests" => requests::run(&rt, alloc, 20_000, true)?,
             "lock" => acts::run(&rt, alloc, 200_000, true)?,
             "lines" => lines::run(&rt, alloc, 200_000, true)?,
             "replays" => replays::run(&rt, alloc, 100_000, true)?,

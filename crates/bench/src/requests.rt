@@ -11,7 +11,8 @@ use std::rt::Clock;
 use std::time::Instant;
 
 /// A call of a job as an admin sends it.
-const REQUEST: &[u8] = b"POST /run HTTP/1.1\r\nXXL-JOB-ACCESS-TOKEN: default_token\r\nContent-Type: application/json;charset=UTF-8\r\nUser-Agent: Java/1.8.0_202\r\nHost: 127.0.0.1:9999\r\nConnection: keep-alive\r\nContent-Length: 46\r\n\r\n{\"jobId\":1,\"logId\":7,\"executorHandler\":\"demo\"}";
+const REQUEST: &[u8] =
+    b"POST /run HTTP/1.1\r\nXXL-JOB-ACCESS-TOKEN: default_token\r\nContent-Type: application/json;charset=UTF-8\r\nUser-Agent: Java/1.8.0_202\r\nHost: 127.0.0.1:9999\r\nConnection: keep-alive\r\nContent-Length: 46\r\n\r\n{\"jobId\":1,\"logId\":7,\"executorHandler\":\"demo\"}";
 
 /// Reads so many requests, one after another on one link, and prints how many came, with requests per
 /// second if timed.

@@ -1,0 +1,51 @@
+-- Bytes begin with at most one request, and those that begin with one have no fault.
+use Rattle.std.proofs.Common.{◌≡◌, ℕ, ◌+◌, ◌-◌, ◌<◌, ◌≤◌, Bool, true, false, List, [], ◌∷◌, ◌++◌, length, take, drop, refl, sym, ap, ◌∙◌, subst, arith, take-append-drop, inl, inr}
+use Rattle.httparse.specs.Grammar.{RequestHead, print_request, ReadsRequest}
+use Rattle.httparse.proofs.GrammarLemmas.{request_unique}
+use Rattle.http_reading.specs.Draws.{IsOutside}
+use Rattle.http_reading.specs.Plans.{most_line, plan_of, token_of, closes, fields_of}
+use Rattle.http_reading.specs.Bodies.{ReadsBody, BodyFault}
+use Rattle.http_reading.specs.Requests.{Reads, HeadFault, BehindHead, HasFault}
+use Rattle.http_reading.specs.Laws.{OneRequest, NoFault}
+use Rattle.http_reading.specs.declared.request.Request.{Request}
+use Rattle.http_reading.specs.declared.fault.HttpFault.{HttpFault}
+use Rattle.http_reading.specs.declared.fault.HttpFault.TheVariants.{Ended, BadHead, TooLarge, BadBody, LinkFault, NoMemory}
+use Rattle.http_reading.proofs.UniqueLemmas.{body_same, body_no_fault, take_past}
+
+pub one_request : OneRequest
+one_request bytes first second rest other x y =
+    let heads = request_unique bytes x.head y.head x.behind y.behind x.reads.reads y.reads.reads in
+    let plan = λ (h : RequestHead). plan_of (fields_of h.fields) in
+    let second_body = subst (λ h. ReadsBody (plan h) x.behind false second.body other) (sym heads.0)
+    (subst (λ b. ReadsBody (plan y.head) b false second.body other) (sym heads.1) y.body) in
+    let bodies = body_same (plan x.head) x.behind false first.body second.body rest other x.body second_body in
+    let method : first.method ≡ second.method = x.method ∙ ap (λ (h : RequestHead). h.method) heads.0 ∙ sym y.method in
+    let path : first.path ≡ second.path = x.path ∙ ap (λ (h : RequestHead). h.target) heads.0 ∙ sym y.path in
+    let token : first.token ≡ second.token = x.token ∙ ap (λ (h : RequestHead). token_of (fields_of h.fields)) heads.0 ∙ sym y.token in
+    let close : first.close ≡ second.close = x.close ∙ ap (λ (h : RequestHead). closes h.minor (fields_of h.fields)) heads.0 ∙ sym y.close in
+    (λ i. record { method = method i; path = path i; token = token i; close = close i; body = bodies.0 i }, bodies.1)
+
+whole_again : (n : ℕ) (bytes : List ℕ) (h : RequestHead) (behind : List ℕ) → ReadsRequest bytes h behind → ReadsRequest (take n bytes ++ drop n bytes) h behind
+whole_again n bytes h behind x = subst (λ t. ReadsRequest t h behind) (sym (take-append-drop n bytes)) x
+
+head_no_fault : (bytes : List ℕ) (request : Request) (rest : List ℕ) (ended : Bool) (fault : HttpFault) → Reads bytes request rest → HeadFault bytes ended fault → IsOutside fault
+head_no_fault bytes request rest ended (Ended taken) x h = absurd (h.3.none x.head x.behind x.reads.reads)
+head_no_fault bytes request rest ended BadHead x h = absurd (h (drop most_line bytes) x.head x.behind (whole_again most_line bytes x.head x.behind x.reads.reads))
+head_no_fault bytes request rest ended TooLarge x (inl h) =
+    absurd (h.none x.head (take (most_line - length (print_request x.head)) x.behind)
+    (x.reads.reads.0, ap (take most_line) x.reads.reads.1 ∙ take_past most_line (print_request x.head) x.behind x.reads.short))
+head_no_fault bytes request rest ended TooLarge x (inr h) =
+    absurd (omega (arith, x.reads.few, h.none (drop most_line bytes) x.head x.behind (whole_again most_line bytes x.head x.behind x.reads.reads)))
+head_no_fault bytes request rest ended (BadBody place) x h = absurd h
+head_no_fault bytes request rest ended LinkFault x h = inl refl
+head_no_fault bytes request rest ended NoMemory x h = inr refl
+
+pub no_fault : NoFault
+no_fault bytes request rest ended fault x (inl h) = head_no_fault bytes request rest ended fault x h
+no_fault bytes request rest ended fault x (inr h) =
+    let heads = request_unique bytes x.head h.head x.behind h.behind x.reads.reads h.reads.reads in
+    let plan = λ (k : RequestHead). plan_of (fields_of k.fields) in
+    body_no_fault (plan h.head) (length (print_request h.head)) h.behind request.body rest ended fault
+    (subst (λ k. ReadsBody (plan k) h.behind false request.body rest) heads.0
+    (subst (λ b. ReadsBody (plan x.head) b false request.body rest) heads.1 x.body))
+    h.is

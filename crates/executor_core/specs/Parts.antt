@@ -1,5 +1,5 @@
 -- What an executor is seen as, and what its changes leave.
-use Rattle.std.specs.Prelude.{◌≡◌, ◌≤◌, ℕ, ◌+◌, Bool, true, false, not, if◌then◌else◌, List, [], ◌∷◌, ◌++◌, Option, None, Some, length, map, filter, take, drop}
+use Rattle.std.specs.Prelude.{◌≡◌, ◌<◌, ◌≤◌, ℕ, ◌+◌, Bool, true, false, not, if◌then◌else◌, List, [], ◌∷◌, ◌++◌, Option, None, Some, length, map, filter, take, drop}
 use Rattle.job_values.specs.declared.run.CallbackItem.{CallbackItem}
 use Rattle.job_values.specs.declared.executor.ExecutorEvent.{ExecutorEvent}
 use Rattle.job_values.specs.declared.executor.ExecutorEvent.TheVariants as event
@@ -12,6 +12,7 @@ use Rattle.executor_history.specs.Runs.{is_cover, queued_run, is_queued_of, is_r
 use Rattle.executor_history.specs.Items.{killed_items, expired_items, finished_items}
 use Rattle.executor_history.specs.Past.{Parts, parts_of, covered_items, taken_batch, left_waiting, put_id, released, known_run, add_line, is_trimmed}
 use Rattle.executor_history.specs.Replies.{reply_in, reply_of}
+use Rattle.run_queues.specs.Order.{QueuesView, HasRoom}
 use Rattle.executor_core.specs.declared.known_row.KnownRow.{KnownRow}
 use Rattle.executor_core.specs.declared.change.Change.{Change}
 use Rattle.executor_core.specs.declared.change.Change.TheVariants as change
@@ -19,15 +20,15 @@ use Rattle.executor_core.specs.Rows.{LineRoom}
 
 -- how much more goes into each list without memory
 pub record Room : Type 0 where
-  pub queued : ℕ
   pub on_runners : ℕ
   pub held : ℕ
   pub known : ℕ
   pub callbacks : ℕ
 
--- an executor: its parts, the rows of the known logs as they are kept, and its room
+-- an executor: its parts, the queues and the rows of the known logs as they are kept, and its room
 pub record Whole : Type 0 where
   pub parts : Parts
+  pub queues : QueuesView
   pub rows : List KnownRow
   pub room : Room
 
@@ -95,7 +96,7 @@ parts_after p change.Reload = record p { waiting = p.waiting ++ p.spooled; spool
 
 -- there is room for all that a change adds
 abbrev pub CanCommit : Whole → Change → Type 0
-CanCommit w (change.Queue q cover items) = (1 ≤ w.room.queued) × (1 ≤ w.room.held) × (1 ≤ w.room.known) × (length items ≤ w.room.callbacks)
+CanCommit w (change.Queue q cover items) = (w.queues.last < q.run.number) × HasRoom q.job w.queues × (1 ≤ w.room.held) × (1 ≤ w.room.known) × (length items ≤ w.room.callbacks)
 CanCommit w (change.Kill job items) = length items ≤ w.room.callbacks
 CanCommit w (change.Poll runner at) = 1 ≤ w.room.on_runners
 CanCommit w (change.Finish runner items) = length items ≤ w.room.callbacks

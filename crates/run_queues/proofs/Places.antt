@@ -1,5 +1,6 @@
 -- Where elements in rising order stand, and how an element is put among them or taken out.
-use Rattle.std.proofs.Common.{◌≡◌, ℕ, ◌<◌, ◌≤◌, Bool, true, false, not, ◌==◌, List, [], ◌∷◌, ◌++◌, length, get_or, take, drop, filter, refl, sym, ap, arith, zero, suc, ◌⊎◌, inl, inr}
+use Rattle.std.proofs.Common.{◌≡◌, ℕ, ◌<◌, ◌≤◌, Bool, true, false, not, ◌==◌, nat_lt, List, [], ◌∷◌, ◌++◌, length, get_or, take, drop, filter, refl, sym, ap, arith, zero, suc, ◌⊎◌, inl, inr}
+use Rattle.std.specs.List.{list_any}
 use Rattle.std.specs.List.Sorted.{IsNonDecreasingBy}
 use Rattle.std.proofs.lemmas.Bool.{cases_lt}
 use Rattle.std.proofs.lemmas.Bool.Decides.{nat_tests}
@@ -57,10 +58,6 @@ removed key low n (x ∷ xs) (suc i) d h lt e =
     let up = rises-above key (key x) xs i d h.1 (omega arith) in
     rw (below_differs n (key x) (omega (arith, up, e))) (ap (λ ys. x ∷ ys) (removed key (key x) n xs i d h.1 (omega arith) e))
 
--- the same at the place of the key
-pub taken : {X : Type 0} (key : X → ℕ) (n : ℕ) (xs : List X) (place : ℕ) (d : X) → RisesBy key 0 xs → place < length xs → key (get_or xs place d) ≡ n → take place xs ++ drop (suc place) xs ≡ filter (λ x. not (n == key x)) xs
-taken key n xs place d h lt e = removed key 0 n xs place d h lt e
-
 none_at : {X : Type 0} (key : X → ℕ) (n : ℕ) (xs : List X) (d : X) → ((k : ℕ) → k < length xs → key (get_or xs k d) ≡ n → ⊥) → filter (λ x. not (n == key x)) xs ≡ xs
 none_at key n [] d h = refl
 none_at key n (x ∷ xs) d h = rw (apart (key x) (h 0 (omega arith))) (ap (λ ys. x ∷ ys) (none_at key n xs d (λ k lt. h (suc k) (omega arith)))) where
@@ -68,17 +65,22 @@ none_at key n (x ∷ xs) d h = rw (apart (key x) (h 0 (omega arith))) (ap (λ ys
   apart m differs = grind (arith, nat_tests)
 
 -- a key that is not at its place is nowhere
-pub absent : {X : Type 0} (key : X → ℕ) (n : ℕ) (xs : List X) (place : ℕ) (d : X) → RisesBy key 0 xs → IsPlaceFrom key n xs place → (place < length xs → key (get_or xs place d) ≡ n → ⊥) → filter (λ x. not (n == key x)) xs ≡ xs
-absent key n xs place d h at differs = none_at key n xs d by_side where
-  by_order : (k : ℕ) → k < length xs → key (get_or xs k d) ≡ n → (k < place) ⊎ (place ≤ k) → ⊥
-  by_order k lt e (inl low) = let b = at.below k d low in omega (arith, b, e)
-  by_order k lt e (inr high) =
+pub not_there : {X : Type 0} (key : X → ℕ) (n : ℕ) (xs : List X) (place : ℕ) (d : X) → RisesBy key 0 xs → IsPlaceFrom key n xs place → (place < length xs → key (get_or xs place d) ≡ n → ⊥) → (k : ℕ) → k < length xs → key (get_or xs k d) ≡ n → ⊥
+not_there key n xs place d h at differs k lt e = by_order (cases_lt k place) where
+  by_order : (k < place) ⊎ (place ≤ k) → ⊥
+  by_order (inl low) = let b = at.below k d low in omega (arith, b, e)
+  by_order (inr high) =
       let up = rises-pairs key 0 xs place k d h high lt in
       let from = at.above place d (omega arith) (omega arith) in
       differs (omega arith) (omega (arith, up, from, e))
 
-  by_side : (k : ℕ) → k < length xs → key (get_or xs k d) ≡ n → ⊥
-  by_side k lt e = by_order k lt e (cases_lt k place)
+pub absent : {X : Type 0} (key : X → ℕ) (n : ℕ) (xs : List X) (place : ℕ) (d : X) → RisesBy key 0 xs → IsPlaceFrom key n xs place → (place < length xs → key (get_or xs place d) ≡ n → ⊥) → filter (λ x. not (n == key x)) xs ≡ xs
+absent key n xs place d h at differs = none_at key n xs d (not_there key n xs place d h at differs)
+
+-- nor is one whose place is behind all
+pub past_end : {X : Type 0} (key : X → ℕ) (n : ℕ) (xs : List X) (place : ℕ) → IsPlaceFrom key n xs place → length xs ≤ place → filter (λ x. not (n == key x)) xs ≡ xs
+past_end key n [] place at le = refl
+past_end key n (x ∷ xs) place at le = none_at key n (x ∷ xs) x (λ k lt e. let b = at.below k x (omega arith) in omega (arith, b, e))
 
 -- ---- an element put in
 -- where all before a place fail and all from it on pass, an element goes to that place
@@ -88,3 +90,18 @@ put_point p x [] (suc i) d le low high = absurd (omega arith)
 put_point p x (y ∷ ys) zero d le low high = rw (high 0 (omega arith) (omega arith)) refl
 put_point p x (y ∷ ys) (suc i) d le low high =
     rw (low 0 (omega arith)) (ap (λ zs. y ∷ zs) (put_point p x ys i d (omega arith) (λ k lt. low (suc k) (omega arith)) (λ k ge lt. high (suc k) (omega arith) (omega arith))))
+
+put_rises : {X : Type 0} (key : X → ℕ) (low : ℕ) (x y : X) (ys : List X) (b : Bool) → nat_lt (key x) (key y) ≡ b → (key x == key y) ≡ false → low < key x → RisesBy key low (y ∷ ys)
+    → (key y < key x → RisesBy key (key y) (put_before (λ z. nat_lt (key x) (key z)) x ys)) → RisesBy key low (put_before (λ z. nat_lt (key x) (key z)) x (y ∷ ys))
+put_rises key low x y ys true e differs up h step = rw e (up, (grind (arith, nat_tests), h.1))
+put_rises key low x y ys false e differs up h step = rw e (h.0, step (grind (arith, nat_tests)))
+
+new_step : {X : Type 0} (key : X → ℕ) (low : ℕ) (x y : X) (ys : List X) (b : Bool) → (key x == key y) ≡ b → list_any (λ z. key x == key z) (y ∷ ys) ≡ false → low < key x → RisesBy key low (y ∷ ys)
+    → (list_any (λ z. key x == key z) ys ≡ false → key y < key x → RisesBy key (key y) (put_before (λ z. nat_lt (key x) (key z)) x ys)) → RisesBy key low (put_before (λ z. nat_lt (key x) (key z)) x (y ∷ ys))
+new_step key low x y ys true e new up h step = let k = rw e at new in absurd cc
+new_step key low x y ys false e new up h step = put_rises key low x y ys (nat_lt (key x) (key y)) refl e up h (step (rw e at new))
+
+-- an element with a new key leaves them rising
+pub rises-put : {X : Type 0} (key : X → ℕ) (low : ℕ) (x : X) (xs : List X) → low < key x → list_any (λ z. key x == key z) xs ≡ false → RisesBy key low xs → RisesBy key low (put_before (λ z. nat_lt (key x) (key z)) x xs)
+rises-put key low x [] up new h = (up, tt)
+rises-put key low x (y ∷ ys) up new h = new_step key low x y ys (key x == key y) refl new up h (λ more over. rises-put key (key y) x ys over more h.1)

@@ -72,6 +72,7 @@ pub(crate) fn pop(lanes: &mut IndexMap<u32, VecDeque<Queued>>, job: JobId) -> Op
 /// Empties the queue of a job.
 pub(crate) fn clear(lanes: &mut IndexMap<u32, VecDeque<Queued>>, job: JobId)
     ensures queues { (j : ℕ) → queue_of j lanes.new.entries ≡ (if job == j then [] else queue_of j lanes.old.entries) }
+    ensures room { (j : ℕ) → QueueRoom j lanes.old.entries → QueueRoom j lanes.new.entries }
     ensures once { IsUnique nat_eq lanes.new }
 {
     match lanes.get_mut(&job.get()) {

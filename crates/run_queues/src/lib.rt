@@ -8,6 +8,6 @@ pub mod queues;
 pub mod ready;
 
 pub use front::Front;
-pub use keyed::{Keyed, place_after, place_from};
+pub use keyed::{Keyed, place_after, place_from, put_key, take_key};
 pub use queues::Queues;
 pub use ready::some_runs;

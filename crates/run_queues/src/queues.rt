@@ -1,5 +1,5 @@
 //! The runs that wait, seen as one list in order of acceptance.
-ghost use Rattle.std.specs.Prelude.{◌≡◌, ◌<◌, ◌≤◌, ◌==◌, not, [], ◌∷◌, ◌++◌, length, filter, IsOk, OnOk, MatchOption};
+ghost use Rattle.std.specs.Prelude.{◌≡◌, ℕ, ◌<◌, ◌≤◌, ◌==◌, not, [], ◌∷◌, ◌++◌, length, filter, IsOk, OnOk, MatchOption};
 ghost use Rattle.std.specs.List.{list_any};
 ghost use Rattle.std.specs.Option.{option_copied};
 ghost use Rattle.job_lane.specs.Runs.{without_first};
@@ -131,6 +131,7 @@ impl Queues {
     pub fn drop_job(&mut self, job: JobId)
         ensures runs { self.new.runs ≡ filter (λ q. not (is_queued_of job q)) self.old.runs }
         ensures last { self.new.last ≡ self.old.last }
+        ensures room { (j : ℕ) → HasRoom j self.old → HasRoom j self.new }
     {
         ready::take_first(&mut self.fronts, lanes::first_front(&self.lanes, job));
         lanes::clear(&mut self.lanes, job);

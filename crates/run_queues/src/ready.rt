@@ -6,7 +6,7 @@ ghost use Rattle.run_queues.specs.Rising.{RisesBy};
 ghost use Rattle.run_queues.specs.Order.{put_front, put_next, without_front};
 
 use super::front::Front;
-use super::keyed::{Keyed, place_after, place_from};
+use super::keyed::{put_key, take_key};
 use executor_history::Working;
 use job_values::JobId;
 
@@ -36,39 +36,15 @@ pub(crate) fn ready_front(fronts: &[Front], on_runners: &[Working]) -> Option<Fr
     }
 }
 
-/// Takes the front of a run out, found by halves.
-pub(crate) fn take_number(fronts: &mut Vec<Front>, number: u64)
-    requires { RisesBy (λ f. f.number) 0 fronts.old.items }
-    ensures items { fronts.new.items ≡ filter (λ f. not (number == f.number)) fronts.old.items }
-    ensures capacity { vec_capacity fronts.new ≡ vec_capacity fronts.old }
-    ensures len { vec_len fronts.new ≤ vec_len fronts.old }
-{
-    let place = place_from(fronts.as_slice(), number);
-    if place < fronts.len() && fronts[place].key() == number {
-        let _taken = fronts.remove(place);
-    }
-}
-
-/// Puts a front before those of later runs. There is room for it.
-pub(crate) fn put(fronts: &mut Vec<Front>, front: Front)
-    requires rises { RisesBy (λ f. f.number) 0 fronts.old.items }
-    requires room { vec_len fronts.old < vec_capacity fronts.old }
-    ensures items { fronts.new.items ≡ put_front front fronts.old.items }
-    ensures capacity { vec_capacity fronts.new ≡ vec_capacity fronts.old }
-    ensures len { vec_len fronts.new ≡ vec_len fronts.old + 1 }
-{
-    let place = place_after(fronts.as_slice(), front.number);
-    let _put = fronts.insert(place, front);
-}
-
 /// Takes a front out, if there is one.
 pub(crate) fn take_first(fronts: &mut Vec<Front>, front: Option<Front>)
     requires { RisesBy (λ f. f.number) 0 fronts.old.items }
     ensures items { fronts.new.items ≡ without_front front fronts.old.items }
-    ensures room { vec_len fronts.old ≤ vec_capacity fronts.old → vec_len fronts.new ≤ vec_capacity fronts.new }
+    ensures len { vec_len fronts.new ≤ vec_len fronts.old }
+    ensures capacity { vec_capacity fronts.new ≡ vec_capacity fronts.old }
 {
     if let Some(front) = front {
-        take_number(fronts, front.number);
+        take_key(fronts, front.number);
     }
 }
 
@@ -79,10 +55,10 @@ pub(crate) fn replace(fronts: &mut Vec<Front>, taken: u64, next: Option<Front>)
     ensures items { fronts.new.items ≡ put_next next (filter (λ f. not (taken == f.number)) fronts.old.items) }
     ensures room { vec_len fronts.new ≤ vec_capacity fronts.new }
 {
-    take_number(fronts, taken);
+    take_key(fronts, taken);
     match next {
         None => {}
-        Some(next) => put(fronts, next),
+        Some(next) => put_key(fronts, next),
     }
 }
 

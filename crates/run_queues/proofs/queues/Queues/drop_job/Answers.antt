@@ -1,4 +1,4 @@
-use Rattle.std.proofs.Common.{not, filter, ◌∙◌, ap}
+use Rattle.std.proofs.Common.{not, filter, ◌∙◌, ap, arith}
 use Rattle.executor_history.specs.declared.records.Queued.{Queued}
 use Rattle.executor_history.specs.Runs.{is_queued_of}
 use Rattle.run_queues.specs.Order.{Hold, in_order, without_front}
@@ -15,7 +15,7 @@ after c =
 
 pub invariant_of-self : goal.invariant_of-self
 invariant_of-self c =
-    (as_seen c.clear.new.lanes.entries c.take_first.new.fronts.items (filter (λ (q : Queued). not (is_queued_of c.args.job q)) (in_order c.self.inside.lanes.entries)) c.self.inside.last (after c), c.take_first.ensures.room c.self.invariant.1)
+    (as_seen c.clear.new.lanes.entries c.take_first.new.fronts.items (filter (λ (q : Queued). not (is_queued_of c.args.job q)) (in_order c.self.inside.lanes.entries)) c.self.inside.last (after c), omega (arith, c.self.invariant.1, c.take_first.ensures.len, c.take_first.ensures.capacity))
 
 pub returns-clause-runs : goal.returns-clause-runs
 returns-clause-runs c =

@@ -1,12 +1,13 @@
 //! An executor, one event at a time: prepare takes all the memory, commit makes the change.
 ghost use Rattle.std.specs.Prelude.{◌≡◌, ◌+◌, ◌<◌, ◌≤◌, length, IfOk, OnOk, OnErr, false, ◌^◌, vec_len, vec_capacity};
+ghost use Rattle.callback_spool.specs.Different.{HaveDifferentLogs};
 ghost use Rattle.executor_history.specs.History.{Opening, is_refusal};
 ghost use Rattle.executor_history.specs.Past.{parts_of};
 ghost use Rattle.executor_history.specs.Replies.{reply_in};
 ghost use Rattle.executor_history.specs.Runs.{is_cover, queued_run, is_ready, ready_front, run_on, put_working, working_run};
 ghost use Rattle.executor_history.specs.Past.{covered_items};
 ghost use Rattle.job_lane.specs.Runs.{without_first};
-ghost use Rattle.executor_core.specs.Parts.{line_change, change_by, change_of, parts_after, CanCommit, StandsFor, Answers};
+ghost use Rattle.executor_core.specs.Parts.{line_change, change_by, change_of, parts_after, HasRoomFor, CanCommit, StandsFor, Answers};
 
 use super::add::{add_all, hold_all, release_all, take_out};
 use super::change::{Change, PreparedRun};
@@ -17,9 +18,7 @@ use super::replies::{
     batch_answer, covers, finish_answer, idle_answer, kept_answer, line_answer, lines_answer,
     poll_answer, run_answer, take_answer,
 };
-use super::runs::{
-    end_runs, enqueue, expire_runs, late_len, leave_runner, working_on,
-};
+use super::runs::{end_runs, enqueue, expire_runs, late_len, leave_runner, working_on};
 use callback_spool::Callbacks;
 use executor_history::{Queued, Working};
 use job_lane::{QueuedRun, RunnerRun};
@@ -114,11 +113,11 @@ fn told_of(new: &Queued) -> Told
 }
 
 /// The change of an accepted Run.
-fn queue_change(alloc: Global, run: &Run, queues: &Queues) -> Result<Change, NoMemory>
-    requires { queues.now.last + 1 < 2 ^ 64 }
-    ensures { IfOk result (λ c. c ≡ Change.Queue (record { job = run.now.job; run = queued_run (queues.now.last + 1) run.now }) (is_cover run.now) (covered_items run.now queues.now.runs)) }
+fn queue_change(alloc: Global, run: &Run, runs: u64, queues: &Queues) -> Result<Change, NoMemory>
+    requires { runs + 1 < 2 ^ 64 }
+    ensures { IfOk result (λ c. c ≡ Change.Queue (record { job = run.now.job; run = queued_run (runs + 1) run.now }) (is_cover run.now) (covered_items run.now queues.now.runs)) }
 {
-    let new = queued_of(alloc, run, queues.last() + 1)?;
+    let new = queued_of(alloc, run, runs + 1)?;
     let cover = covers(run);
     let items = if cover {
         all_killed(alloc, run.job, queues)?
@@ -176,12 +175,13 @@ fn give(queues: &mut Queues, on_runners: &mut Vec<Working>, runner: RunnerNo, at
 }
 
 impl Executor {
-    /// An executor with these handlers, whose kept items wait and whose ids are held. The kept items have different logs.
+    /// An executor with these handlers, whose kept items wait and whose ids are held.
     pub fn new(
         alloc: Global,
         handlers: Seq<HandlerName>,
         kept: Seq<CallbackItem>,
     ) -> Result<Executor, NoMemory>
+        requires { HaveDifferentLogs kept }
         ensures { IfOk result (λ executor. StandsFor executor.parts (Opening handlers kept)) }
     {
         let mut held = Ids::new(alloc);
@@ -250,7 +250,7 @@ impl Executor {
         let queues = &self.queues;
         let on_runners = self.on_runners.as_slice();
         match event {
-            ExecutorEvent::Run(run, _) => queue_change(self.alloc, run, queues),
+            ExecutorEvent::Run(run, _) => queue_change(self.alloc, run, queues.last(), queues),
             ExecutorEvent::Kill(job) => {
                 Ok(Change::Kill(*job, all_killed(self.alloc, *job, queues)?))
             }
@@ -291,7 +291,7 @@ impl Executor {
     /// Makes room for all that a change adds.
     fn make_room(&mut self, change: &Change) -> Result<(), NoMemory>
         ensures parts { self.new.parts ≡ self.old.parts }
-        ensures room { OnOk result (CanCommit self.new change.now) }
+        ensures room { OnOk result (HasRoomFor self.new change.now) }
     {
         match change {
             Change::Queue(new, _, items) => {

@@ -1,6 +1,6 @@
 -- Where elements in rising order stand, and how an element is put among them or taken out.
-use Rattle.std.proofs.Common.{◌≡◌, ℕ, ◌<◌, ◌≤◌, Bool, true, false, not, ◌==◌, nat_lt, List, [], ◌∷◌, ◌++◌, length, get_or, take, drop, filter, refl, sym, ap, arith, zero, suc, ◌⊎◌, inl, inr}
-use Rattle.std.specs.List.{list_any}
+use Rattle.std.proofs.Common.{◌≡◌, ℕ, ◌<◌, ◌≤◌, Bool, true, false, not, ◌==◌, nat_lt, List, [], ◌∷◌, ◌++◌, length, get_or, take, drop, filter, refl, sym, ap, arith, zero, suc, ◌⊎◌, inl, inr, map, position, Some, None}
+use Rattle.std.specs.List.{list_any, position_or_len}
 use Rattle.std.specs.List.Sorted.{IsNonDecreasingBy}
 use Rattle.std.proofs.lemmas.Bool.{cases_lt}
 use Rattle.std.proofs.lemmas.Bool.Decides.{nat_tests}
@@ -105,3 +105,36 @@ new_step key low x y ys false e new up h step = put_rises key low x y ys (nat_lt
 pub rises-put : {X : Type 0} (key : X → ℕ) (low : ℕ) (x : X) (xs : List X) → low < key x → list_any (λ z. key x == key z) xs ≡ false → RisesBy key low xs → RisesBy key low (put_before (λ z. nat_lt (key x) (key z)) x xs)
 rises-put key low x [] up new h = (up, tt)
 rises-put key low x (y ∷ ys) up new h = new_step key low x y ys (key x == key y) refl new up h (λ more over. rises-put key (key y) x ys over more h.1)
+
+-- ---- positions
+at_len : {X : Type 0} (p : X → Bool) (xs : List X) (i : ℕ) (d : X) → i < length xs → p (get_or xs i d) ≡ true → ((k : ℕ) → k < i → p (get_or xs k d) ≡ false) → position_or_len p xs ≡ i
+at_len p [] i d lt e h = absurd (omega arith)
+at_len p (x ∷ xs) zero d lt e h = rw e refl
+at_len p (x ∷ xs) (suc i) d lt e h = let step = at_len p xs i d (omega arith) e (λ k below. h (suc k) (omega arith)) in rw (h 0 (omega arith)) (omega (arith, step))
+
+-- the position of the first element that passes
+pub position-at : {X : Type 0} (p : X → Bool) (xs : List X) (i : ℕ) (d : X) → i < length xs → p (get_or xs i d) ≡ true → ((k : ℕ) → k < i → p (get_or xs k d) ≡ false) → position p xs ≡ Some i
+position-at p xs i d lt e h =
+    let at = at_len p xs i d lt e h in
+    let within : nat_lt i (length xs) ≡ true = grind (arith, nat_tests) in
+    rw (at, within) refl
+
+none_len : {X : Type 0} (p : X → Bool) (xs : List X) → ((k : ℕ) (d : X) → k < length xs → p (get_or xs k d) ≡ false) → position_or_len p xs ≡ length xs
+none_len p [] h = refl
+none_len p (x ∷ xs) h = let step = none_len p xs (λ k d lt. h (suc k) d (omega arith)) in rw (h 0 x (omega arith)) (omega (arith, step))
+
+pub position-none : {X : Type 0} (p : X → Bool) (xs : List X) → ((k : ℕ) (d : X) → k < length xs → p (get_or xs k d) ≡ false) → position p xs ≡ None
+position-none p xs h =
+    let at = none_len p xs h in
+    let past : nat_lt (length xs) (length xs) ≡ false = grind (arith, nat_tests) in
+    rw (at, past) refl
+
+-- what rises by what is said of each element
+pub rises-map : {X Y : Type 0} (key : Y → ℕ) (f : X → Y) (low : ℕ) (xs : List X) → RisesBy key low (map f xs) → RisesBy (λ x. key (f x)) low xs
+rises-map key f low [] h = tt
+rises-map key f low (x ∷ xs) h = (h.0, rises-map key f (key (f x)) xs h.1)
+
+-- the same at any default
+pub position-first : {X : Type 0} (p : X → Bool) (xs : List X) (i : ℕ) → i < length xs → ((d : X) → p (get_or xs i d) ≡ true) → ((k : ℕ) (d : X) → k < i → p (get_or xs k d) ≡ false) → position p xs ≡ Some i
+position-first p [] i lt e h = absurd (omega arith)
+position-first p (x ∷ xs) i lt e h = position-at p (x ∷ xs) i x lt (e x) (λ k below. h k x below)

@@ -15,9 +15,9 @@ returns-else-place-len-clause-items g c =
     let key_of = g.T.Keyed.key_of in
     let at : IsPlaceFrom key_of c.args.key c.args.items.now.items c.place_from-place.result = rw c.as_slice.ensures.value at c.place_from-place.ensures in
     elim c.else-place-len.branch [
-      else-place-len-via-then-place-len+else-key w ↦
-        sym (absent key_of c.args.key c.args.items.now.items c.place_from-place.result w.index.result.now c.requires at
-        (λ lt e. w.if-key.false (w.key.ensures ∙ (ap key_of w.index.ensures ∙ e))))
-    | else-place-len-via-else-place-len w ↦
-        sym (past_end key_of c.args.key c.args.items.now.items c.place_from-place.result at (omega arith))
+      | else-place-len-via-then-place-len+else-key w ↦
+          sym (absent key_of c.args.key c.args.items.now.items c.place_from-place.result w.index.result.now c.requires at
+          (λ lt e. w.if-key.false (w.key.ensures ∙ (ap key_of w.index.ensures ∙ e))))
+      | else-place-len-via-else-place-len w ↦
+          sym (past_end key_of c.args.key c.args.items.now.items c.place_from-place.result at (omega arith))
     ]

@@ -1,5 +1,5 @@
 -- Starts, stops and updates of jobs: the row of a present job is replaced.
-use Rattle.std.proofs.Common.{◌≡◌, ℕ, ◌+◌, ◌<◌, List, [], ◌∷◌, Bool, true, false, cond, eqb, nat_lt, Option, Some, None, Ok, is_some, map, refl, sym, ap, ◌∙◌, subst, arith}
+use Rattle.std.proofs.Common.{◌≡◌, ℕ, ◌+◌, ◌<◌, List, [], ◌∷◌, Bool, true, false, cond, eqb, nat_lt, Option, Some, None, Ok, is_some, map, inl, refl, sym, ap, ◌∙◌, subst, arith}
 use Rattle.std.specs.Prelude.{if◌then◌else◌}
 use Rattle.std.proofs.lemmas.Bool.Decides.{nat_tests}
 use Rattle.job_values.specs.declared.job.JobSpec.{JobSpec}
@@ -18,6 +18,7 @@ use Rattle.job_records.specs.Rules.{KeepsRules, RunsByNext, HasItsSchedule, HasG
 use Rattle.job_records.specs.Tables.{Tables}
 use Rattle.job_records.specs.Changes.{put_row, AreAllowed}
 use Rattle.job_records.proofs.RowLemmas.{rises-from_rising}
+use Rattle.job_records.proofs.Keeping.{keeps_job, job_has_rules}
 use Rattle.cluster_history.specs.declared.settings.Settings.{Settings}
 use Rattle.cluster_history.specs.History.{History, After, accepted, settings_of}
 use Rattle.cluster_history.specs.Groups.{groups_of, group_with}
@@ -31,8 +32,7 @@ use Rattle.cluster_core.specs.Plans.{IsPlanned}
 use Rattle.cluster_core.specs.Stands.{Stands, records_of}
 use Rattle.cluster_core.specs.Edits.{updated_row, turned_row}
 use Rattle.cluster_core.proofs.PlanLemmas.{planned-refused}
-use Rattle.cluster_core.proofs.PutLemmas.{put-changed, found-all, found-id}
-use Rattle.cluster_core.proofs.KeptRules.{rules-put_job}
+use Rattle.cluster_core.proofs.PutLemmas.{put-changed, found-id, found-within}
 use Rattle.cluster_core.proofs.RowPlans.{planned-rows}
 
 pub same-id : (id : ℕ) → eqb id id ≡ true
@@ -120,15 +120,18 @@ updated-rows h at job spec row new r rises found is made =
 edit-allowed : (t : Tables) (job : ℕ) (row new : Job) (spec : JobSpec) (plan : Plan) (edition : ℕ) (next : Option ℕ) → KeepsRules t → job_with job t.jobs ≡ Some row → new ≡ updated_row spec plan edition next row
     → parsed spec.kind spec.schedule ≡ Ok plan → is_some (group_with spec.group t.groups) ≡ true → AreAllowed t (change.PutJob new ∷ [])
 edit-allowed t job row new spec plan edition next rules found made said group =
-    let id : new.id ≡ job = ap (λ (x : Job). x.id) made ∙ found-id (λ (x : Job). x.id) job t.jobs row found in (
-      rules-put_job t row new rules (subst (λ n. job_with n t.jobs ≡ Some row) (sym id) found) (subst RunsByNext (sym made) refl) (subst HasItsSchedule (sym made) said) (subst (HasGroup t.groups) (sym made) group),
+    let id : new.id ≡ job = ap (λ (x : Job). x.id) made ∙ found-id (λ (x : Job). x.id) job t.jobs row found in
+    let there : job_with new.id t.jobs ≡ Some row = subst (λ n. job_with n t.jobs ≡ Some row) (sym id) found in
+    let within = found-within (λ (x : Job). x.id) 0 t.last.job new.id t.jobs row rules.jobs.rising there in (
+      keeps_job t new rules (omega (arith, within.0)) within.1 (subst RunsByNext (sym made) refl) (subst HasItsSchedule (sym made) said) (subst (HasGroup t.groups) (sym made) group) (inl (ap is_some there)),
       tt,
     )
 
 -- a row in another edition, with another next time
 pub turn-allowed : (t : Tables) (job : ℕ) (row new : Job) (edition : ℕ) (next : Option ℕ) → KeepsRules t → job_with job t.jobs ≡ Some row → new ≡ turned_row edition next row → AreAllowed t (change.PutJob new ∷ [])
 turn-allowed t job row new edition next rules found made =
-    edit-allowed t job row new row.spec row.schedule edition next rules found made (found-all HasItsSchedule (λ (x : Job). x.id) job t.jobs row rules.jobs.schedules found) (found-all (HasGroup t.groups) (λ (x : Job). x.id) job t.jobs row rules.jobs.groups_exist found)
+    let kept = job_has_rules t.groups t.jobs t.last.job job row rules.jobs found in
+    edit-allowed t job row new row.spec row.schedule edition next rules found made kept.1 kept.2
 
 -- an edition that can be raised
 raised : (r : ClusterReply) (edition : ℕ) → edition < LAST_EDITION → (if nat_lt edition LAST_EDITION then r else refused IdsSpent) ≡ r

@@ -1,5 +1,5 @@
 -- Plans for the groups.
-use Rattle.std.proofs.Common.{◌≡◌, ℕ, ◌+◌, ◌<◌, List, [], ◌∷◌, ◌++◌, true, cond, nat_lt, Some, is_some, length, refl, sym, ap, ◌∙◌, subst, arith}
+use Rattle.std.proofs.Common.{◌≡◌, ℕ, ◌+◌, ◌<◌, List, [], ◌∷◌, ◌++◌, true, cond, nat_lt, Some, is_some, length, inl, inr, refl, sym, ap, ◌∙◌, subst, arith}
 use Rattle.std.proofs.lemmas.Bool.Decides.{nat_tests}
 use Rattle.job_values.specs.declared.numbers.TheConstants.{LAST_JOB_ID}
 use Rattle.job_values.specs.declared.words.GroupKind.{GroupKind}
@@ -16,6 +16,8 @@ use Rattle.job_records.specs.Rules.{KeepsRules}
 use Rattle.job_records.specs.Tables.{Tables}
 use Rattle.job_records.specs.Changes.{applied, AreAllowed}
 use Rattle.job_records.proofs.RowLemmas.{rises-from_rising}
+use Rattle.job_records.proofs.PutLemmas.{put_behind}
+use Rattle.job_records.proofs.Keeping.{keeps_last, keeps_group}
 use Rattle.cluster_history.specs.History.{History, accepted}
 use Rattle.cluster_history.specs.Groups.{groups_of, last_group, group_with, group_set}
 use Rattle.cluster_history.specs.Replies.{reply_of, group_reply, done_if, refused}
@@ -24,8 +26,7 @@ use Rattle.cluster_core.specs.declared.prepared.NodeChange.TheVariants as node
 use Rattle.cluster_core.specs.Kept.{Kept}
 use Rattle.cluster_core.specs.Plans.{IsPlanned}
 use Rattle.cluster_core.specs.Stands.{Stands, records_of}
-use Rattle.cluster_core.proofs.PutLemmas.{put-behind, put-changed, found-id}
-use Rattle.cluster_core.proofs.KeptRules.{rules-last, rules-new_group, rules-put_group}
+use Rattle.cluster_core.proofs.PutLemmas.{put-changed, found-id, found-within}
 use Rattle.cluster_core.proofs.RowPlans.{planned-rows}
 
 -- the last ids with that of a new group
@@ -52,8 +53,8 @@ add-allowed t new last rules room ids here is =
     let job : last.job ≡ t.last.job = ap (λ (x : LastIds). x.job) is in
     let log : last.log ≡ t.last.log = ap (λ (x : LastIds). x.log) is in
     let most : t.last.group < 2147483647 = ids in
-    let raised = rules-last t last rules (omega arith) (omega arith) (omega arith) (omega (arith, rules.jobs.last_id)) (omega arith) (omega (arith, rules.logs.last_id)) in
-    (raised, (rules-new_group (applied t (change.LastIds last)) t.last.group new raised rules.groups.rising (omega arith) (sym group) room, tt))
+    let raised = keeps_last t last rules (omega arith) (omega arith) (omega arith) (omega arith) (omega (arith, rules.jobs.last_id)) (omega (arith, rules.logs.last_id)) in
+    (raised, (keeps_group (applied t (change.LastIds last)) new raised (omega arith) (omega arith) (inr room), tt))
 
 -- the rows and the last ids with other groups
 abbrev with_groups : History → List Group → LastIds → Tables
@@ -72,7 +73,7 @@ add_group-planned kept app copied kind addresses list id last rules room ids her
     let number : id ≡ last_group h + 1 = here ∙ ap (λ (t : Tables). t.last.group + 1) s.tables in
     let lasts : last ≡ with_last_group (last_group h + 1) (records_of h).last = is ∙ ap (λ n. with_last_group n kept.tables.last) number ∙ ap (λ (t : Tables). with_last_group (last_group h + 1) t.last) s.tables in
     let row : new ≡ record { id = last_group h + 1; app = app; kind = kind; addresses = addresses } = (cc) in
-    let behind = put-behind (λ (g : Group). g.id) 0 (last_group h) new (groups_of h) (groups_rise h s.opens) (omega arith) in
+    let behind = put_behind (λ (g : Group). g.id) 0 (last_group h) new (groups_of h) (groups_rise h s.opens) (omega arith) in
     ap (λ gs. with_groups h gs last) behind
     ∙ ap (λ g. with_groups h (groups_of h ++ g ∷ []) last) row
     ∙ ap (λ l. with_groups h (groups_of h ++ record { id = last_group h + 1; app = app; kind = kind; addresses = addresses } ∷ []) l) lasts)
@@ -85,7 +86,9 @@ pub set_group-planned : (kept : Kept) (group : ℕ) (kind : GroupKind) (addresse
     → IsPlanned kept (SetGroup group kind addresses) (record { reply = Done; changes = change.PutGroup new ∷ []; node = node.Nothing })
 set_group-planned kept group kind addresses row new rules found made =
     let id : new.id ≡ group = ap (λ (x : Group). x.id) made ∙ found-id (λ (x : Group). x.id) group kept.tables.groups row found in
-    planned-rows kept (SetGroup group kind addresses) Done (change.PutGroup new ∷ []) (rules-put_group kept.tables row new rules (subst (λ n. group_with n kept.tables.groups ≡ Some row) (sym id) found), tt) refl
+    let present : group_with new.id kept.tables.groups ≡ Some row = subst (λ n. group_with n kept.tables.groups ≡ Some row) (sym id) found in
+    let within = found-within (λ (x : Group). x.id) 0 kept.tables.last.group new.id kept.tables.groups row rules.groups.rising present in
+    planned-rows kept (SetGroup group kind addresses) Done (change.PutGroup new ∷ []) (keeps_group kept.tables new rules (omega (arith, within.0)) within.1 (inl (ap is_some present)), tt) refl
     (λ h. record { running = refl; scan = refl; rings = refl; pools = refl })
     (λ h s. set-reply kept h group kind addresses s ∙ ap (λ o. done_if (is_some o) NoGroup) found)
     (λ h s.

@@ -1,5 +1,5 @@
 -- Plans that add and remove jobs.
-use Rattle.std.proofs.Common.{◌≡◌, ℕ, ◌+◌, ◌<◌, ◌≤◌, List, [], ◌∷◌, ◌++◌, Bool, true, false, cond, eqb, not, nat_lt, None, Ok, is_some, length, map, refl, sym, ap, ◌∙◌, subst, arith}
+use Rattle.std.proofs.Common.{◌≡◌, ℕ, ◌+◌, ◌<◌, ◌≤◌, List, [], ◌∷◌, ◌++◌, Bool, true, false, cond, eqb, not, nat_lt, None, Ok, is_some, length, map, inr, refl, sym, ap, ◌∙◌, subst, arith}
 use Rattle.std.specs.List.{filter}
 use Rattle.std.proofs.lemmas.Bool.Decides.{nat_tests}
 use Rattle.std.proofs.lemmas.List.{map-append}
@@ -21,6 +21,8 @@ use Rattle.job_records.specs.Rules.{KeepsRules}
 use Rattle.job_records.specs.Tables.{Tables}
 use Rattle.job_records.specs.Changes.{without, applied, AreAllowed}
 use Rattle.job_records.proofs.RowLemmas.{rising-ends}
+use Rattle.job_records.proofs.PutLemmas.{put_behind}
+use Rattle.job_records.proofs.Keeping.{keeps_last, keeps_job, keeps_drop_job}
 use Rattle.cluster_history.specs.History.{History, After, accepted}
 use Rattle.cluster_history.specs.Groups.{group_with}
 use Rattle.cluster_history.specs.Looks.{job_with}
@@ -32,8 +34,6 @@ use Rattle.cluster_core.specs.Edits.{new_row}
 use Rattle.cluster_core.specs.Kept.{Kept}
 use Rattle.cluster_core.specs.Plans.{IsPlanned}
 use Rattle.cluster_core.specs.Stands.{Stands, records_of}
-use Rattle.cluster_core.proofs.PutLemmas.{put-behind}
-use Rattle.cluster_core.proofs.KeptRules.{rules-last, rules-new_job, rules-drop_job}
 use Rattle.cluster_core.proofs.RowPlans.{planned-rows}
 use Rattle.cluster_core.proofs.EditLemmas.{plan-parsed, same-id}
 
@@ -73,8 +73,8 @@ add-allowed t spec plan id last rules group said room ids here is =
     let job : last.job ≡ id = ap (λ (x : LastIds). x.job) is in
     let log : last.log ≡ t.last.log = ap (λ (x : LastIds). x.log) is in
     let most : t.last.job < 2147483647 = ids in
-    let raised = rules-last t last rules (omega arith) (omega (arith, rules.groups.last_id)) (omega arith) (omega arith) (omega arith) (omega (arith, rules.logs.last_id)) in
-    (raised, (rules-new_job (applied t (change.LastIds last)) t.last.job (new_row id spec plan) raised rules.jobs.rising (omega arith) (sym job) room refl said group, tt))
+    let raised = keeps_last t last rules (omega arith) (omega arith) (omega arith) (omega (arith, rules.groups.last_id)) (omega arith) (omega (arith, rules.logs.last_id)) in
+    (raised, (keeps_job (applied t (change.LastIds last)) (new_row id spec plan) raised (omega arith) (omega arith) refl said group (inr room), tt))
 
 -- a job's row, by whether it is the one that is added
 abbrev row_added : History → JobSpec → Bool → ℕ → Job
@@ -115,7 +115,7 @@ add_job-planned kept spec copied plan id last rules group said room ids here sam
     let rising = jobs_rise h s.opens in
     let row : new_row id copied plan ≡ new_row (last_job h + 1) spec (plan_of spec) =
     ap (λ n. new_row n copied plan) number ∙ ap (λ x. new_row (last_job h + 1) x plan) same ∙ ap (λ p. new_row (last_job h + 1) spec p) (sym (plan-parsed spec plan said)) in
-    let behind = put-behind (λ (j : Job). j.id) 0 (last_job h) (new_row id copied plan) (jobs_of h) rising (omega arith) in
+    let behind = put_behind (λ (j : Job). j.id) 0 (last_job h) (new_row id copied plan) (jobs_of h) rising (omega arith) in
     ap (λ js. with_jobs h js last) (behind ∙ ap (λ x. jobs_of h ++ x ∷ []) row ∙ sym (jobs-added h spec (JobReply id) rising))
     ∙ ap (λ l. with_jobs h (jobs_of (After h (AddJob spec) (JobReply id))) l) lasts)
 
@@ -136,7 +136,7 @@ remove-reply kept h job s = sym (ap (λ (t : Tables). done_if (is_some (job_with
 -- a job is removed
 pub remove-planned : (kept : Kept) (job : ℕ) → KeepsRules kept.tables → is_some (job_with job kept.tables.jobs) ≡ true → IsPlanned kept (RemoveJob job) (record { reply = Done; changes = change.DropJob job ∷ []; node = node.Nothing })
 remove-planned kept job rules present =
-    planned-rows kept (RemoveJob job) Done (change.DropJob job ∷ []) (rules-drop_job kept.tables job rules, tt) refl
+    planned-rows kept (RemoveJob job) Done (change.DropJob job ∷ []) (keeps_drop_job kept.tables job rules, tt) refl
     (λ h. record { running = refl; scan = refl; rings = refl; pools = refl })
     (λ h s. remove-reply kept h job s ∙ ap (λ b. done_if b NoJob) present)
     (λ h s. ap (λ js. with_jobs h js (records_of h).last) (rows-without h job (ids_of h)))

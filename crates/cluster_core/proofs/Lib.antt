@@ -13,7 +13,6 @@ pub mod CountLemmas
 pub mod TurnLemmas
 pub mod ShownLemmas
 pub mod PutLemmas
-pub mod KeptRules
 pub mod RowPlans
 pub mod EditLemmas
 pub mod GroupLemmas

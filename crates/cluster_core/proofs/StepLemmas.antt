@@ -41,7 +41,7 @@ use Rattle.cluster_core.specs.Kept.{Kept, pools_at}
 use Rattle.cluster_core.specs.Openings.{entering_of}
 use Rattle.cluster_core.specs.Plans.{IsPlanned}
 use Rattle.cluster_core.specs.Stands.{Stands, records_of, ring_of}
-use Rattle.cluster_core.specs.Steps.{SitsAt, ticket_put, shots_decided}
+use Rattle.cluster_core.specs.Steps.{SitsAt, IsNotScanning, ticket_put, shots_decided}
 use Rattle.cluster_core.proofs.EditLemmas.{row-found, jobs-put, turn-allowed, row-stands, same-id}
 use Rattle.cluster_core.proofs.FireLemmas.{ids-spent, ids-left, job-found}
 use Rattle.cluster_core.proofs.FiringLemmas.{fired-rows, fired-allowed, fired-tables, fired-pools_by, fired_changes, queue-length, with_logs, only_fast}
@@ -146,7 +146,7 @@ planned-skip kept admin sitting below sits rules none running =
     stands-stepped kept h admin (length (pools_at kept.pools admin).fast) (Skip sitting.seat.job) None [] kept.tables below refl looks (no-shots kept h admin sitting sits looks s) s rows)
 
 -- the look at the row of the next seat's job
-abbrev look_for : Job → Look → Looked
+abbrev pub look_for : Job → Look → Looked
 look_for row look = record { row = row; due = look.due; decision = look.decision }
 
 -- it is what the step looks at
@@ -212,3 +212,10 @@ planned-look kept admin queued sitting row new look fired changes below here sit
     ∙ ap (λ js. record (with_logs (records_of h) (last_log h + length (shots_stepped h)) (opened_logs h admin (shots_stepped h))) { jobs = js }) (rows-set h sitting.seat.job row new (look_for row look) rules_h found_h refl made ∙ ap (rows_looked h) (sym looks)) in
     let P : List Entering → Type 0 = λ es. Stands (record kept { tables = applied_all kept.tables changes; scan = stepped kept.scan; rings = rings_with admin (ticket_put row look.decision.put) kept.rings; pools = pools_after admin es kept.pools }) (After h (ScanStep admin) (LookReply sitting.seat.job look.decision.case look.due look.decision.next look.decision.put fired.opened)) in
     subst P (sym fires.entering) (stands-stepped kept h admin queued (LookReply sitting.seat.job look.decision.case look.due look.decision.next look.decision.put fired.opened) (Some (look_for row look)) (shots_decided kept.tables.groups sitting.at look.decision row) (applied_all kept.tables changes) below here looks opens s rows))
+
+-- a step of an admin that owns no scan
+pub not-scanning : (kept : Kept) (h : History) (admin : ℕ) → runs h admin ≡ true → IsNotScanning kept.scan admin → Stands kept h → reply_after h (ScanStep admin) ≡ refused NotScanning
+not-scanning kept h admin running none s =
+    answered-running (runs h admin) admin _ running
+    ∙ ap (λ x. step_reply (last_log h) (length (queue_of h admin)) (shots_stepped h) (look_of h) admin x) (sym s.scan)
+    ∙ none (last_log h) (length (queue_of h admin)) (shots_stepped h) (look_of h)

@@ -1,5 +1,5 @@
 -- What a step of the scan finds.
-use Rattle.std.specs.Prelude.{[], None, if◌then◌else◌, ◌≡◌, ℕ, ◌==◌, ℤ, List, true, slice_get, Option, Some}
+use Rattle.std.specs.Prelude.{[], ◌∷◌, ◌++◌, None, if◌then◌else◌, ◌≡◌, ℕ, ◌==◌, ℤ, List, true, slice_get, Option, Some}
 use Rattle.job_records.specs.declared.job.Job.{Job}
 use Rattle.cluster_history.specs.declared.scan.Scan.{Scan}
 use Rattle.cluster_history.specs.declared.scan.Seat.{Seat}
@@ -11,6 +11,10 @@ use Rattle.cluster_history.specs.Firings.{Shot, shots_of, kind_of}
 use Rattle.cluster_history.specs.Looks.{Looked}
 use Rattle.cluster_history.specs.Replies.{step_reply, refused}
 use Rattle.cluster_core.specs.declared.pages.Sitting.{Sitting}
+use Rattle.job_values.specs.declared.cluster.ClusterReply.TheVariants as reply
+use Rattle.job_records.specs.declared.change.Change.TheVariants as change
+use Rattle.cluster_core.specs.declared.firing.Fired.{Fired}
+use Rattle.cluster_core.specs.declared.prepared.Prepared.{Prepared}
 use Rattle.cluster_core.specs.declared.prepared.NodeChange.{NodeChange}
 use Rattle.cluster_core.specs.declared.prepared.NodeChange.TheVariants as node
 
@@ -39,3 +43,11 @@ ticket_put row (Some due) = Some (record { job = row.id; edition = row.edition; 
 -- what a look at a row is to open
 abbrev pub shots_decided : List Group → ℕ → Decision → Job → List Shot
 shots_decided groups at decision row = if decision.fire_now then shots_of groups (kind_of decision.case) at row else []
+
+-- what is prepared for a look at a row: its reply, the rows of its logs and then that of its job, and the ticket for the time that it puts
+abbrev pub looks_at : ℕ → Job → ℕ → Decision → Job → Fired → Prepared
+looks_at admin row due decision new fired = record {
+  reply = reply.Look row.id decision.case due decision.next decision.put fired.opened;
+  changes = fired.changes.items ++ change.PutJob new ∷ [];
+  node = node.Steps admin (ticket_put row decision.put) fired.entering.items;
+}

@@ -1,27 +1,31 @@
 //! Scans: their begin and their steps.
-ghost use Rattle.std.specs.Prelude.{◌≡◌, [], ◌∷◌, ◌++◌, IfOk};
+ghost use Rattle.std.specs.Prelude.{◌≡◌, true, [], ◌∷◌, ◌++◌, IfOk};
 ghost use Rattle.job_values.specs.declared.cluster.ClusterEvent.TheVariants.{ScanBegin, ScanStep};
 ghost use Rattle.job_values.specs.declared.cluster.ClusterReply.TheVariants.{Skip};
 ghost use Rattle.cluster_core.specs.declared.prepared.NodeChange.TheVariants as node;
 ghost use Rattle.job_records.specs.declared.change.Change.TheVariants.{PutJob};
 ghost use Rattle.cluster_history.specs.Pages.{begun};
 ghost use Rattle.cluster_history.specs.Firings.{kind_of};
+ghost use Rattle.cluster_history.specs.History.{History, accepted};
+ghost use Rattle.cluster_history.specs.Looks.{job_with};
+ghost use Rattle.cluster_history.specs.Nodes.{runs};
+ghost use Rattle.cluster_core.specs.Stands.{StandsFor};
 ghost use Rattle.cluster_core.specs.Firing.{FiresAs};
 ghost use Rattle.cluster_core.specs.Kept.{kept_of};
 ghost use Rattle.cluster_core.specs.Plans.{IsPlanned};
-ghost use Rattle.cluster_core.specs.Steps.{begins, ticket_put, shots_decided};
+ghost use Rattle.cluster_core.specs.Steps.{SitsAt, begins, ticket_put, shots_decided, looks_at};
 
 use super::cluster::Cluster;
 use super::firing::{Fired, fire_job};
 use super::ids::push_row;
-use super::looks::{look_at, looked_row};
-use super::pages::{next_seat, open_scan, page_at};
+use super::looks::{Look, look_at, looked_row};
+use super::pages::{Sitting, next_seat, open_scan, page_at};
 use super::prepared::{NodeChange, Prepared};
 use cluster_history::Seat;
 use cluster_history::limits::JOBS_PER_THREAD;
 use job_records::{Change, Job, Records};
 use job_values::{
-    AdminNo, Case, ClusterRefusal, ClusterReply, JobId, Moment, NoMemory, Seq, TriggerKind,
+    AdminNo, Case, ClusterRefusal, ClusterReply, Edition, JobId, Moment, NoMemory, Seq, TriggerKind,
 };
 use misfire_rules::Decision;
 use std::alloc::Global;
@@ -72,10 +76,10 @@ fn fire_look(
 }
 
 /// The ticket for a time that is put, if one is.
-fn ticket_for(row: &Job, put: Option<Moment>) -> Option<Ticket>
-    ensures { result ≡ ticket_put row.now put }
+fn ticket_for(row: &Job, put: &Option<Moment>) -> Option<Ticket>
+    ensures { result ≡ ticket_put row.now put.now }
 {
-    let due = put?;
+    let due = (*put)?;
     Some(Ticket {
         job: row.id,
         edition: row.edition,
@@ -83,12 +87,43 @@ fn ticket_for(row: &Job, put: Option<Moment>) -> Option<Ticket>
     })
 }
 
-/// The changes of a firing, and the row of the job behind them.
-fn with_row(mut changes: Vec<Change>, row: Job) -> Result<Seq<Change>, NoMemory>
-    ensures { IfOk result (λ all. all ≡ changes.items ++ PutJob row ∷ []) }
+/// The changes with the put of a row behind them.
+fn put_behind(mut changes: Vec<Change>, row: Job) -> Result<Vec<Change>, NoMemory>
+    ensures { IfOk result (λ all. all.items ≡ changes.items ++ PutJob row ∷ []) }
 {
     push_row(&mut changes, Change::PutJob(row))?;
-    Ok(Seq::of(changes))
+    Ok(changes)
+}
+
+/// What a look answers and changes: the rows of its logs, and then that of its job.
+fn looked(
+    admin: AdminNo,
+    row: &Job,
+    due: Moment,
+    decision: Decision,
+    new: Job,
+    fired: Fired,
+) -> Result<Prepared, NoMemory>
+    ensures { IfOk result (λ prepared. prepared ≡ looks_at admin row.now due decision new fired) }
+{
+    let Decision {
+        case,
+        put,
+        next,
+        ..
+    } = decision;
+    let Fired {
+        changes,
+        entering,
+        opened,
+    } = fired;
+    let changes = put_behind(changes, new)?;
+    let ticket = ticket_for(row, &put);
+    Ok(Prepared {
+        reply: ClusterReply::Look(row.id, case, due, next, put, opened),
+        changes: Seq::of(changes),
+        node: NodeChange::Steps(admin, ticket, Seq::of(entering)),
+    })
 }
 
 impl Cluster {
@@ -127,6 +162,34 @@ impl Cluster {
         }
     }
 
+    /// A look at the row of the next seat's job.
+    fn plan_look(
+        &self,
+        admin: AdminNo,
+        at: Moment,
+        edition: Edition,
+        row: &Job,
+    ) -> Result<Prepared, NoMemory>
+        requires sits { SitsAt (kept_of self.now).scan admin (record { seat = record { job = row.now.id; edition = edition }; at = at }) }
+        requires found { job_with row.now.id (kept_of self.now).tables.jobs ≡ Some row.now }
+        requires runs { (h : History) → StandsFor self.now h → runs (accepted h) admin ≡ true }
+        ensures { IfOk result (IsPlanned (kept_of self.now) (ScanStep admin)) }
+    {
+        let alloc = self.alloc;
+        let look = look_at(row, self.settings.offset, at, edition);
+        let Some(look) = look else {
+            return Ok(self.skip(admin, row.id));
+        };
+        let Look { due, decision } = look;
+        let queued = self.queued_at(admin);
+        let new = looked_row(alloc, row, &decision)?;
+        let fired = fire_look(alloc, &self.records, row, at, &decision, queued)?;
+        let Some(fired) = fired else {
+            return Ok(Prepared::refusal(alloc, ClusterRefusal::IdsSpent));
+        };
+        looked(admin, row, due, decision, new, fired)
+    }
+
     /// The owner of the lock looks at the next job of its page.
     pub(crate) fn plan_step(&self, admin: AdminNo) -> Result<Prepared, NoMemory>
         ensures { IfOk result (IsPlanned (kept_of self.now) (ScanStep admin)) }
@@ -136,39 +199,13 @@ impl Cluster {
             let why = ClusterRefusal::NodeStopped(admin);
             return Ok(Prepared::refusal(alloc, why));
         }
-        let Some(sitting) = next_seat(&self.scan, admin) else {
+        let Some(Sitting { seat, at }) = next_seat(&self.scan, admin) else {
             return Ok(Prepared::refusal(alloc, ClusterRefusal::NotScanning));
         };
-        let job = sitting.seat.job;
-        let Some(row) = self.records.job(job) else {
-            return Ok(self.skip(admin, job));
-        };
-        let Some(look) = look_at(row, self.settings.offset, &sitting) else {
-            return Ok(self.skip(admin, job));
-        };
-        let decision = look.decision;
-        let queued = self.queued_at(admin);
-        let fired = fire_look(alloc, &self.records, row, sitting.at, &decision, queued)?;
-        let Some(fired) = fired else {
-            return Ok(Prepared::refusal(alloc, ClusterRefusal::IdsSpent));
-        };
-        let Fired {
-            changes,
-            entering,
-            opened,
-        } = fired;
-        let new = looked_row(alloc, row, decision.next)?;
-        let ticket = ticket_for(row, decision.put);
-        let Decision {
-            case,
-            put,
-            next,
-            ..
-        } = decision;
-        Ok(Prepared {
-            reply: ClusterReply::Look(job, case, look.due, next, put, opened),
-            changes: with_row(changes, new)?,
-            node: NodeChange::Steps(admin, ticket, Seq::of(entering)),
-        })
+        let Seat { job, edition } = seat;
+        match self.records.job(job) {
+            Some(row) => self.plan_look(admin, at, edition, row),
+            None => Ok(self.skip(admin, job)),
+        }
     }
 }

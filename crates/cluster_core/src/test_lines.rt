@@ -203,7 +203,9 @@ fn shown_text(alloc: Global, shown: &ShownLog) -> Result<String, AllocError> {
     let code = shown.trigger_code;
     let result = shown.result_code;
     let marked = if shown.marked { "marked" } else { "unmarked" };
-    let mut text = format!(in alloc; "log {log} {job} {group} {sent} {handler} {param} {index} {total} {retries}")?;
+    let mut text = format!(in alloc;
+        "log {log} {job} {group} {sent} {handler} {param} {index} {total} {retries}"
+    )?;
     write!(text, " {kind} {time} {code}")?;
     push_moment(&mut text, shown.result_time)?;
     write!(text, " {result} {marked}")?;

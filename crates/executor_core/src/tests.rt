@@ -2,8 +2,9 @@
 
 use super::Executor;
 use job_values::{
-    BoundedText, CallbackItem, ExecutorEvent, ExecutorRefusal, ExecutorReply, FinishCode, HandlerName,
-    JobId, LineNo, LogId, LogMoment, Moment, Run, RunnerNo, Seq, ShardNo, Text, Timeout,
+    BoundedText, CallbackItem, ExecutorEvent, ExecutorRefusal, ExecutorReply, FinishCode,
+    HandlerName, JobId, LineNo, LogId, LogMoment, Moment, Run, RunnerNo, Seq, ShardNo, Text,
+    Timeout,
 };
 use std::alloc::Global;
 use std::process::Abort;
@@ -152,8 +153,20 @@ fn discard_with_a_timeout(rt: HostRuntime) -> Result<(), Fail> {
     answers(&rt, &mut x, &poll(3, 100_000)?, "runs", 1)?;
     answers(&rt, &mut x, &second, "discarded", 0)?;
     answers(&rt, &mut x, &ExecutorEvent::IdleBeat(job(1)?), "running", 0)?;
-    answers(&rt, &mut x, &ExecutorEvent::Expire(at(104_999)?), "expired", 0)?;
-    answers(&rt, &mut x, &ExecutorEvent::Expire(at(105_000)?), "expired", 1)?;
+    answers(
+        &rt,
+        &mut x,
+        &ExecutorEvent::Expire(at(104_999)?),
+        "expired",
+        0,
+    )?;
+    answers(
+        &rt,
+        &mut x,
+        &ExecutorEvent::Expire(at(105_000)?),
+        "expired",
+        1,
+    )?;
     answers(&rt, &mut x, &second, "queued", 0)?;
     answers(&rt, &mut x, &poll(3, 105_002)?, "busy", 1)?;
     answers(&rt, &mut x, &poll(4, 105_002)?, "runs", 2)?;
@@ -165,16 +178,46 @@ fn discard_with_a_timeout(rt: HostRuntime) -> Result<(), Fail> {
 fn kill_and_cover_end_queued_runs(rt: HostRuntime) -> Result<(), Fail> {
     let alloc = rt.alloc();
     let mut x = executor(alloc)?;
-    answers(&rt, &mut x, &asked(alloc, 1, "SERIAL_EXECUTION", 0, 100_000)?, "queued", 0)?;
-    answers(&rt, &mut x, &asked(alloc, 2, "SERIAL_EXECUTION", 0, 100_000)?, "queued", 0)?;
+    answers(
+        &rt,
+        &mut x,
+        &asked(alloc, 1, "SERIAL_EXECUTION", 0, 100_000)?,
+        "queued",
+        0,
+    )?;
+    answers(
+        &rt,
+        &mut x,
+        &asked(alloc, 2, "SERIAL_EXECUTION", 0, 100_000)?,
+        "queued",
+        0,
+    )?;
     answers(&rt, &mut x, &poll(0, 100_000)?, "runs", 1)?;
     answers(&rt, &mut x, &poll(1, 100_000)?, "nothing", 0)?;
-    answers(&rt, &mut x, &asked(alloc, 3, "COVER_EARLY", 0, 100_000)?, "queued", 1)?;
+    answers(
+        &rt,
+        &mut x,
+        &asked(alloc, 3, "COVER_EARLY", 0, 100_000)?,
+        "queued",
+        1,
+    )?;
     answers(&rt, &mut x, &ExecutorEvent::Kill(job(1)?), "killed", 1)?;
     answers(&rt, &mut x, &finish(alloc, 0, 100_001)?, "item", 1)?;
     answers(&rt, &mut x, &ExecutorEvent::Kept, "kept", 3)?;
     let first = LineNo::new(1).ok_or("a number")?;
-    answers(&rt, &mut x, &ExecutorEvent::ReadLines(log(9)?, first), "no lines", 0)?;
-    answers(&rt, &mut x, &ExecutorEvent::ReadLines(log(1)?, first), "lines", 0)?;
+    answers(
+        &rt,
+        &mut x,
+        &ExecutorEvent::ReadLines(log(9)?, first),
+        "no lines",
+        0,
+    )?;
+    answers(
+        &rt,
+        &mut x,
+        &ExecutorEvent::ReadLines(log(1)?, first),
+        "lines",
+        0,
+    )?;
     Ok(())
 }

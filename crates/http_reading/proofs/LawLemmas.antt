@@ -1,12 +1,16 @@
 -- Bytes begin with at most one request, and those that begin with one have no fault.
-use Rattle.std.proofs.Common.{◌≡◌, ℕ, ◌+◌, ◌-◌, ◌<◌, ◌≤◌, Bool, true, false, List, [], ◌∷◌, ◌++◌, length, take, drop, refl, sym, ap, ◌∙◌, subst, arith, take-append-drop, inl, inr}
-use Rattle.httparse.specs.Grammar.{RequestHead, print_request, ReadsRequest}
-use Rattle.httparse.proofs.GrammarLemmas.{request_unique}
+use Rattle.std.proofs.Common.{◌≡◌, ℕ, ◌+◌, ◌-◌, ◌<◌, ◌≤◌, Bool, true, false, List, [], ◌∷◌, ◌++◌, length, take, drop, refl, sym, ap, ◌∙◌, subst, arith, take-append-drop, length-append, inl, inr}
+use Rattle.std.proofs.lemmas.List.{take_all}
+use Rattle.httparse.specs.Grammar.{RequestHead, print_request, ReadsRequest, NeverHasRequest, MayBecomeRequest}
+use Rattle.httparse.specs.Pieces.{Completes, BlankLines}
+use Rattle.httparse.specs.Spans.{RequestExceeds}
+use Rattle.httparse.proofs.GrammarLemmas.{request_unique, print_request-append}
+use Rattle.httparse.proofs.OpenLemmas.{line_blank, request_may_from_line}
 use Rattle.http_reading.specs.Draws.{IsOutside}
 use Rattle.http_reading.specs.Plans.{most_line, plan_of, token_of, closes, fields_of}
 use Rattle.http_reading.specs.Bodies.{ReadsBody, BodyFault}
 use Rattle.http_reading.specs.Requests.{Reads, HeadFault, BehindHead, HasFault}
-use Rattle.http_reading.specs.Laws.{OneRequest, NoFault}
+use Rattle.http_reading.specs.Laws.{OneRequest, NoFault, NoneNoFault}
 use Rattle.http_reading.specs.declared.request.Request.{Request}
 use Rattle.http_reading.specs.declared.fault.HttpFault.{HttpFault}
 use Rattle.http_reading.specs.declared.fault.HttpFault.TheVariants.{Ended, BadHead, TooLarge, BadBody, LinkFault, NoMemory}
@@ -49,3 +53,36 @@ no_fault bytes request rest ended fault x (inr h) =
     (subst (λ k. ReadsBody (plan k) h.behind false request.body rest) heads.0
     (subst (λ b. ReadsBody (plan x.head) b false request.body rest) heads.1 x.body))
     h.is
+
+-- a head has a method and a blank at least
+request_long : (bytes : List ℕ) (h : RequestHead) (rest : List ℕ) → ReadsRequest bytes h rest → 2 ≤ length bytes
+request_long bytes h rest x = omega (arith, ap length (x.1 ∙ print_request-append h rest), x.0.method.0, length-append {A = ℕ})
+
+no_lines : Completes BlankLines []
+no_lines = record { more = []; tree = []; reads = λ rest. refl }
+
+-- a request may begin with no byte
+may_begin : NeverHasRequest [] → ⊥
+may_begin never = go (request_may_from_line (inl (line_blank no_lines)))
+  where
+    go : MayBecomeRequest [] → ⊥
+    go (inl (more, h, reads)) = never more h [] reads
+    go (inr (blank, method, target, token, pass, e)) = omega (arith, ap length e, length-append {A = ℕ})
+
+take_none : (n : ℕ) → ◌≡◌ {A = List ℕ} (take n []) []
+take_none n = take_all n [] (omega arith)
+
+none_head : (ended : Bool) (fault : HttpFault) → HeadFault [] ended fault → IsOutside fault
+none_head ended (Ended taken) h = absurd (omega (arith, h.1, h.2))
+none_head ended BadHead h = absurd (may_begin (subst NeverHasRequest (take_none most_line) h))
+none_head ended TooLarge (inl h) = absurd (omega (arith, h.many))
+none_head ended TooLarge (inr h) =
+    let some = subst (RequestExceeds 64) (take_none most_line) h.some in
+    absurd (omega (arith, ap length some.2, request_long (some.0 ++ 10 ∷ []) some.3 [] some.4, length-append {A = ℕ}))
+none_head ended (BadBody place) h = absurd h
+none_head ended LinkFault h = inl refl
+none_head ended NoMemory h = inr refl
+
+pub none_no_fault : NoneNoFault
+none_no_fault ended fault (inl h) = none_head ended fault h
+none_no_fault ended fault (inr h) = absurd (omega (arith, request_long [] h.head h.behind h.reads.reads))

@@ -1,5 +1,5 @@
 -- What a dialer shows after an ask.
-use Rattle.std.proofs.Common.{◌≡◌, ◌∙◌, ℕ, ◌+◌, ◌-◌, ◌^◌, ◌≤◌, Bool, true, false, nat_lt, List, [], ◌∷◌, ◌++◌, length, Option, Some, None, Result, Ok, Err, sym, ap, refl, subst, arith}
+use Rattle.std.proofs.Common.{◌≡◌, ◌∙◌, ℕ, ◌≤◌, Bool, true, false, nat_lt, List, [], ◌∷◌, ◌++◌, length, Option, Some, None, Result, Ok, Err, ap, refl, arith}
 use Rattle.std.proofs.lemmas.Bool.{false≢true}
 use Rattle.outside.specs.declared.dialed.Dialed.{Dialed}
 use Rattle.outside.specs.declared.dialed.Shown.{Shown}
@@ -10,8 +10,8 @@ use Rattle.http_reading.specs.declared.response.Response.{Response}
 use Rattle.http_reading.specs.declared.fault.HttpFault.{HttpFault}
 use Rattle.http_ends.specs.Addresses.{Address}
 use Rattle.http_ends.specs.declared.asking.AskFault.{AskFault}
-use Rattle.http_ends.specs.declared.asking.AskFault.TheVariants.{BadAddress, DialFault, Http}
-use Rattle.http_ends.specs.Asking.{Exchanged, Carries, ShowsExchange, ShowsAsk, is_dial_fault, IsAskDial, AsksOnce}
+use Rattle.http_ends.specs.declared.asking.AskFault.TheVariants.{DialFault, Http}
+use Rattle.http_ends.specs.Asking.{Carries, ShowsExchange, ShowsAsk, is_dial_fault, AsksOnce}
 
 -- the answer of an ask whose link was dialed
 abbrev pub of_link : Result Response HttpFault → Result Response AskFault

@@ -1,5 +1,5 @@
 -- What a fresh link tells after a request was written and a response was read.
-use Rattle.std.proofs.Common.{◌≡◌, ◌≢◌, ◌∙◌, ℕ, ◌+◌, ◌-◌, ◌^◌, ◌<◌, ◌≤◌, Bool, true, false, ◌||◌, nat_lt, List, [], ◌∷◌, ◌++◌, length, take, Option, Some, None, Result, Ok, Err, IfOk, IfErr, sym, ap, refl, subst, arith}
+use Rattle.std.proofs.Common.{◌≡◌, ℕ, Bool, true, false, ◌||◌, nat_lt, List, [], length, Option, Some, None, Result, Ok, Err, IfOk, IfErr, sym, ap, refl, subst, arith}
 use Rattle.std.proofs.Math.Seq.{take-length}
 use Rattle.std.proofs.lemmas.Bool.{lt-ltb}
 use Rattle.std.specs.Io.KnownBytes.{Appends}
@@ -8,7 +8,7 @@ use Rattle.http_reading.specs.declared.response.Response.{Response}
 use Rattle.http_reading.specs.declared.fault.HttpFault.{HttpFault}
 use Rattle.http_reading.specs.declared.fault.HttpFault.TheVariants.{LinkFault}
 use Rattle.http_reading.specs.Responses.{ReadsAnswer, HasAnswerFault, HearsAnswer, HearsFault}
-use Rattle.http_ends.specs.Asking.{IsAnswer, Exchanged, Carries}
+use Rattle.http_ends.specs.Asking.{Carries}
 
 -- what was appended to nothing is all
 pub appended : (old new : Option (List ℕ)) (bytes : List ℕ) → old ≡ Some [] → Appends old new bytes → new ≡ Some bytes

@@ -1,5 +1,5 @@
 -- The bytes of requests and responses as they are written.
-use Rattle.std.specs.Prelude.{◌≡◌, ℕ, ◌==◌, ◌⊎◌, List, [], ◌∷◌, ◌++◌, length, codes, decimal, Result, OnOk, if◌then◌else◌}
+use Rattle.std.specs.Prelude.{◌≡◌, ℕ, ◌==◌, ◌⊎◌, List, [], ◌∷◌, ◌++◌, length, codes, decimal, if◌then◌else◌}
 use Rattle.http_reading.specs.declared.response.Response.{Response}
 use Rattle.http_ends.specs.Addresses.{Address}
 

@@ -1,5 +1,5 @@
 -- The dials after one of their links was hung up.
-use Rattle.std.proofs.Common.{◌≡◌, ℕ, zero, suc, ◌<◌, ◌≤◌, List, [], ◌∷◌, ◌++◌, Option, length, get_or, set, refl, sym, ap, arith}
+use Rattle.std.proofs.Common.{◌≡◌, ℕ, zero, suc, ◌<◌, ◌≤◌, List, [], ◌∷◌, ◌++◌, Option, length, get_or, set, refl, ap, arith}
 use Rattle.outside.specs.declared.dialed.Dialed.{Dialed}
 use Rattle.outside.specs.declared.dialed.Shown.{Shown}
 use Rattle.outside.specs.Dials.{hung_up}

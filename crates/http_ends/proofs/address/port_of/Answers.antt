@@ -1,4 +1,4 @@
-use Rattle.std.proofs.Common.{◌≡◌, ◌∙◌, ℕ, decimal, ap, sym, arith}
+use Rattle.std.proofs.Common.{◌≡◌, ◌∙◌, decimal, ap, sym, arith}
 use Rattle.std.specs.Cmp.Lexicographic.{other_text}
 use Rattle.http_ends.proofs.PortLemmas.{port_read, port_unread}
 use Rattle.http_ends.proofs.address.port_of.Goals as goal

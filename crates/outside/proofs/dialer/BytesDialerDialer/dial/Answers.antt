@@ -1,4 +1,4 @@
-use Rattle.std.proofs.Common.{◌≡◌, List, Option, Some, None, IfSome, refl, ap}
+use Rattle.std.proofs.Common.{Option, Some, None, IfSome, ap}
 use Rattle.outside.proofs.dialer.BytesDialerDialer.dial.Goals as goal
 
 always : {A : Type 0} (o : Option A) (P : Type 0) → P → IfSome o (λ _. P)

@@ -1,4 +1,4 @@
-use Rattle.std.proofs.Common.{◌≡◌, ◌∙◌, ◌||◌, ◌&&◌, ap, sym, refl, length, drop, nat_lt, nat_eq, arith}
+use Rattle.std.proofs.Common.{◌≡◌, ◌||◌, ◌&&◌, refl, length, nat_lt, nat_eq, arith}
 use Rattle.std.proofs.Math.Seq.{take-add}
 use Rattle.std.proofs.lemmas.List.{drop-drop, take_rest}
 use Rattle.outside.proofs.link.MemoryLinkLink.read.Goals as goal

@@ -1,5 +1,5 @@
 -- A response of a head and the body behind it.
-use Rattle.std.proofs.Common.{◌≡◌, ℕ, ◌+◌, ◌≤◌, Bool, true, false, ◌||◌, List, [], ◌∷◌, ◌++◌, length, drop, Option, refl, sym, ap, ◌∙◌, subst, inl, inr}
+use Rattle.std.proofs.Common.{◌≡◌, ℕ, Bool, true, false, ◌||◌, List, [], ◌++◌, length, drop, Option, refl, sym, subst, inl, inr}
 use Rattle.std.specs.Io.KnownBytes.{Consumes, Appends}
 use Rattle.std.proofs.lemmas.List.{drop-append-le}
 use Rattle.httparse.specs.Grammar.{print_response}
@@ -9,10 +9,9 @@ use Rattle.http_reading.specs.Draws.{Draws, Fails}
 use Rattle.http_reading.specs.Heads.{TopAt, TopRead}
 use Rattle.http_reading.specs.Bodies.{ReadsBody, BodyFault}
 use Rattle.http_reading.specs.BodyReads.{BodyRead, Behind}
-use Rattle.http_reading.specs.Responses.{ReadsTop, ReadsAnswer, TopFault, HasAnswerFault, Heard, HearsAnswer, HearsFault}
+use Rattle.http_reading.specs.Responses.{ReadsTop, TopFault, HasAnswerFault, Heard, HearsAnswer, HearsFault}
 use Rattle.http_reading.specs.declared.top.Top.{Top}
 use Rattle.http_reading.specs.declared.body.Body.{Body}
-use Rattle.http_reading.specs.declared.response.Response.{Response}
 use Rattle.http_reading.specs.declared.plan.BodyPlan.{BodyPlan}
 use Rattle.http_reading.specs.declared.plan.BodyPlan.TheVariants.{Empty, Sized, Chunked, ToEnd, Bad, TooLarge as Huge}
 use Rattle.http_reading.specs.declared.fault.HttpFault.{HttpFault}

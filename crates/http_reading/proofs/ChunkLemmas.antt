@@ -1,13 +1,12 @@
 -- A chunk of a line, its content and CR LF.
-use Rattle.std.proofs.Common.{◌≡◌, ◌≢◌, ℕ, ◌+◌, ◌-◌, ◌<◌, ◌≤◌, ◌⊎◌, Bool, true, false, ◌||◌, eqb, List, [], ◌∷◌, ◌++◌, length, take, drop, replicate, refl, sym, ap, ◌∙◌, subst, arith, append_assoc, length-append, length-take, length-drop, take-append-drop, inl, inr, Option}
+use Rattle.std.proofs.Common.{◌≡◌, ℕ, ◌+◌, ◌-◌, ◌<◌, ◌≤◌, ◌⊎◌, Bool, true, false, ◌||◌, eqb, List, [], ◌∷◌, ◌++◌, length, take, drop, replicate, refl, sym, ap, ◌∙◌, subst, arith, append_assoc, length-append, length-take, length-drop, take-append-drop, inl, inr, Option}
 use Rattle.std.proofs.lemmas.List.{drop-drop, drop-append-le, length-replicate}
 use Rattle.std.proofs.lemmas.Bool.Decides.{eqb_tells}
-use Rattle.httparse.specs.Grammar.{ChunkLine, print_chunk_line, chunk_size}
+use Rattle.httparse.specs.Grammar.{print_chunk_line}
 use Rattle.http_reading.specs.Draws.{Draws, Fails}
-use Rattle.http_reading.specs.Chunks.{Line, ReadsChunk, OpenChunk, Unclosed, BadClose, TailFault}
+use Rattle.http_reading.specs.Chunks.{Line, OpenChunk, TailFault}
 use Rattle.http_reading.specs.ChunkReads.{LineAt, SizeRead, ClosedAt, OpenAt, Closed, CloseFault, ReadsOne, ChunkRead, ChunkFault}
 use Rattle.http_reading.specs.declared.size_line.SizeLine.{SizeLine}
-use Rattle.http_reading.specs.declared.chunks.ReadTo.{ReadTo}
 use Rattle.http_reading.specs.declared.fault.HttpFault.{HttpFault}
 use Rattle.http_reading.specs.declared.fault.HttpFault.TheVariants.{Ended, BadHead, TooLarge, BadBody, LinkFault, NoMemory}
 use Rattle.http_reading.proofs.DrawLemmas.{draws_more, fails_grown}

@@ -1,5 +1,5 @@
 -- Chunks, one after another, up to the last or to a fault.
-use Rattle.std.proofs.Common.{◌≡◌, ℕ, ◌+◌, ◌-◌, ◌<◌, ◌≤◌, Bool, true, false, ◌||◌, List, [], ◌∷◌, ◌++◌, length, drop, refl, sym, ap, ◌∙◌, subst, arith, append_assoc, append-nil, length-append, length-drop, Option}
+use Rattle.std.proofs.Common.{◌≡◌, ℕ, ◌<◌, ◌≤◌, Bool, true, false, ◌||◌, List, [], ◌∷◌, ◌++◌, length, drop, refl, sym, ap, ◌∙◌, subst, arith, append_assoc, append-nil, length-append, length-drop, Option}
 use Rattle.std.proofs.lemmas.List.{drop-append-le}
 use Rattle.http_reading.specs.Draws.{Draws, Fails}
 use Rattle.http_reading.specs.Chunks.{Chunk, ReadsChunk, ReadsChunks, contents_of, Front, TailFault, ChunkedFault}
@@ -10,7 +10,6 @@ use Rattle.http_reading.specs.declared.plan.BodyPlan.TheVariants.{Chunked}
 use Rattle.http_reading.specs.declared.fault.HttpFault.{HttpFault}
 use Rattle.http_reading.specs.declared.fault.HttpFault.TheVariants.{Ended, BadHead, TooLarge, BadBody, LinkFault, NoMemory}
 use Rattle.http_reading.specs.declared.chunks.ReadTo.{ReadTo}
-use Rattle.http_reading.specs.declared.body.Body.{Body}
 use Rattle.http_reading.proofs.DrawLemmas.{draws_more, fails_grown}
 use Rattle.http_reading.proofs.GrowLemmas.{Front-append}
 use Rattle.http_reading.proofs.TakeLemmas.{later_body}

@@ -1,6 +1,6 @@
 -- Where CR LF is to stand.
-use Rattle.std.proofs.Common.{◌≡◌, ◌≢◌, ℕ, ◌+◌, ◌-◌, ◌<◌, ◌≤◌, Bool, true, false, List, [], ◌∷◌, ◌++◌, length, get_or, drop, refl, sym, ap, ◌∙◌, arith, length-drop, inl, inr, Ok, Err, MatchBool, subst}
-use Rattle.http_reading.specs.ChunkReads.{Closing, ClosedAt, OpenAt}
+use Rattle.std.proofs.Common.{◌≡◌, ◌≢◌, ℕ, ◌+◌, ◌<◌, ◌≤◌, true, false, List, [], ◌∷◌, length, get_or, refl, ap, ◌∙◌, arith, length-drop, inl, inr, Ok, Err}
+use Rattle.http_reading.specs.ChunkReads.{Closing, OpenAt}
 
 pub first_other : (bytes : List ℕ) → 0 < length bytes → get_or bytes 0 0 ≢ 13 → Closing bytes (Err 0)
 first_other [] some other = absurd (omega arith)

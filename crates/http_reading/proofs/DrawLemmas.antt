@@ -1,13 +1,12 @@
 -- Reading in several steps.
 use Rattle.std.proofs.lemmas.Bool.{ne_eqb}
-use Rattle.std.proofs.Common.{◌≡◌, ℕ, ◌+◌, ◌<◌, ◌≤◌, ◌≢◌, Bool, true, false, ◌||◌, ◌&&◌, ltb, eqb, List, [], ◌∷◌, ◌++◌, length, Option, Some, None, IfSome, refl, sym, ap, ◌∙◌, arith, append_assoc, append-nil, inl, inr, Result, Ok, Err}
-use Rattle.std.specs.Io.KnownBytes.{Consumes, Appends, Keeps, IsAtEnd}
+use Rattle.std.proofs.Common.{◌≡◌, ℕ, ◌≤◌, ◌≢◌, Bool, true, false, ◌||◌, ◌&&◌, ltb, List, [], ◌∷◌, ◌++◌, length, Option, Some, None, IfSome, refl, sym, ap, ◌∙◌, arith, append_assoc, append-nil, Ok, Err}
+use Rattle.std.specs.Io.KnownBytes.{Consumes, Appends, Keeps}
 use Rattle.std.proofs.KnownBytes.{Consumes-trans, Appends-trans, Consumes-nil, Appends-nil, Consumes-kept, Appends-kept}
-use Rattle.outside.specs.Causes.{Rose}
 use Rattle.outside.specs.Links.{meets_end}
-use Rattle.http_reading.specs.Draws.{Draws, Fails, Came, Outer, IsOutside}
+use Rattle.http_reading.specs.Draws.{Draws, Fails}
 use Rattle.http_reading.specs.declared.fault.HttpFault.{HttpFault}
-use Rattle.http_reading.specs.declared.fault.HttpFault.TheVariants.{LinkFault, NoMemory}
+use Rattle.http_reading.specs.declared.fault.HttpFault.TheVariants.{LinkFault}
 
 append_none : (xs ys : List ℕ) → xs ≡ xs ++ ys → ys ≡ []
 append_none [] ys e = sym e

@@ -1,16 +1,16 @@
 -- More bytes behind those that were read change neither a message at their front nor its fault.
-use Rattle.std.proofs.Common.{◌≡◌, ◌≢◌, ℕ, ◌+◌, ◌-◌, ◌<◌, ◌≤◌, ◌⊎◌, Bool, true, false, List, [], ◌∷◌, ◌++◌, length, take, drop, refl, sym, ap, ◌∙◌, subst, arith, append_assoc, append-nil, length-append, length-take, take-append-drop, inl, inr}
+use Rattle.std.proofs.Common.{◌≡◌, ℕ, ◌+◌, ◌-◌, Bool, true, false, List, [], ◌∷◌, ◌++◌, length, take, sym, ap, ◌∙◌, subst, arith, append_assoc, append-nil, length-append, inl, inr}
 use Rattle.std.proofs.lemmas.List.{take-append-le, take_all}
 use Rattle.std.proofs.lemmas.Bool.{cases_lt}
 use Rattle.std.proofs.Math.Seq.{take-append-add}
-use Rattle.httparse.specs.Grammar.{ChunkLine, RequestHead, ReadsChunkLine, HasNoChunkLine, MayBecomeChunkLine, NeverHasChunkLine, ReadsRequest, NeverHasRequest, HasNoRequest, MayBecomeRequest, print_end, lf}
+use Rattle.httparse.specs.Grammar.{ChunkLine, RequestHead, HasNoChunkLine, MayBecomeChunkLine, NeverHasChunkLine, ReadsRequest, NeverHasRequest, HasNoRequest, MayBecomeRequest}
 use Rattle.httparse.specs.Spans.{RequestOverflows, RequestExceeds}
 use Rattle.httparse.proofs.GrammarLemmas.{ReadsRequest-append}
 use Rattle.httparse.proofs.ChunkLemmas.{ReadsChunkLine-append}
 use Rattle.http_reading.specs.Plans.{most_line}
-use Rattle.http_reading.specs.Chunks.{Chunk, Line, ReadsChunk, ReadsChunks, Front, ReadsChunked, OpenLine, LongLine, BadLine, OpenChunk, Unclosed, BadClose, LargeChunk, TailFault, ChunkedFault, contents_of}
+use Rattle.http_reading.specs.Chunks.{Chunk, Line, ReadsChunk, ReadsChunks, Front, ReadsChunked, LongLine, BadLine, OpenChunk, BadClose, LargeChunk, TailFault, ChunkedFault, contents_of}
 use Rattle.http_reading.specs.Bodies.{ReadsBody, BodyFault}
-use Rattle.http_reading.specs.Requests.{ReadsHead, Reads, OpenHead, LongHead, CrowdedHead, HeadFault, BehindHead, HasFault}
+use Rattle.http_reading.specs.Requests.{ReadsHead, Reads, HeadFault, HasFault}
 use Rattle.http_reading.specs.declared.request.Request.{Request}
 use Rattle.http_reading.specs.declared.plan.BodyPlan.{BodyPlan}
 use Rattle.http_reading.specs.declared.plan.BodyPlan.TheVariants.{Empty, Sized, Chunked, ToEnd, Bad, TooLarge as Huge}

@@ -1,5 +1,5 @@
 -- From what the parser tells of the first 16,384 bytes to the head of all of them.
-use Rattle.std.proofs.Common.{◌≡◌, ◌≢◌, ℕ, ◌+◌, ◌-◌, ◌<◌, ◌≤◌, Bool, true, false, List, [], ◌∷◌, ◌++◌, length, take, drop, map, min, refl, sym, ap, ◌∙◌, subst, arith, length-take, length-drop, length-append, take-append-drop, Result, Ok, Err}
+use Rattle.std.proofs.Common.{◌≡◌, ℕ, ◌<◌, ◌≤◌, false, List, ◌++◌, length, take, drop, map, refl, sym, ap, ◌∙◌, subst, arith, length-take, take-append-drop, Ok}
 use Rattle.std.proofs.lemmas.List.{drop-append-le, length-map, take_all}
 use Rattle.httparse.specs.declared.spans.HeaderSpan.{HeaderSpan}
 use Rattle.httparse.specs.declared.spans.RequestSpans.{RequestSpans}
@@ -10,9 +10,9 @@ use Rattle.httparse.specs.Outcome.{IfComplete, OnPartial, is_complete}
 use Rattle.httparse.specs.Grammar.{Field, ReadsRequest, HasNoRequest, MayBecomeRequest, ReadsResponse, HasNoResponse, MayBecomeResponse}
 use Rattle.http_reading.specs.Requests.{OpenHead, LongHead}
 use Rattle.http_reading.specs.Responses.{OpenTop, LongTop}
-use Rattle.httparse.specs.Spans.{header_bytes, name_and_value, AreFieldsAt, IsSectionWithin, IsRequestWithin, IsResponseWithin, IsRequestOf, IsResponseOf}
+use Rattle.httparse.specs.Spans.{header_bytes, name_and_value, AreFieldsAt, IsRequestWithin, IsResponseWithin, IsRequestOf, IsResponseOf}
 use Rattle.httparse.proofs.GrammarLemmas.{ReadsRequest-append, ReadsResponse-append}
-use Rattle.http_reading.specs.Plans.{most_line, fields_of, plan_of, token_of, closes, to_end}
+use Rattle.http_reading.specs.Plans.{most_line, plan_of, token_of, closes, to_end}
 use Rattle.http_reading.specs.Heads.{HeadSays, HeadAt, TopAt}
 use Rattle.http_reading.specs.declared.head.Head.{Head}
 use Rattle.http_reading.specs.declared.top.Top.{Top}

@@ -1,5 +1,5 @@
 -- Bytes begin with at most one request, and those that begin with one have no fault.
-use Rattle.std.proofs.Common.{◌≡◌, ℕ, ◌+◌, ◌-◌, ◌<◌, ◌≤◌, Bool, true, false, List, [], ◌∷◌, ◌++◌, length, take, drop, refl, sym, ap, ◌∙◌, subst, arith, take-append-drop, length-append, inl, inr}
+use Rattle.std.proofs.Common.{◌≡◌, ℕ, ◌-◌, ◌≤◌, Bool, false, List, [], ◌∷◌, ◌++◌, length, take, drop, refl, sym, ap, ◌∙◌, subst, arith, take-append-drop, length-append, inl, inr}
 use Rattle.std.proofs.lemmas.List.{take_all}
 use Rattle.httparse.specs.Grammar.{RequestHead, print_request, ReadsRequest, NeverHasRequest, MayBecomeRequest}
 use Rattle.httparse.specs.Pieces.{Completes, BlankLines}
@@ -8,8 +8,8 @@ use Rattle.httparse.proofs.GrammarLemmas.{request_unique, print_request-append}
 use Rattle.httparse.proofs.OpenLemmas.{line_blank, request_may_from_line}
 use Rattle.http_reading.specs.Draws.{IsOutside}
 use Rattle.http_reading.specs.Plans.{most_line, plan_of, token_of, closes, fields_of}
-use Rattle.http_reading.specs.Bodies.{ReadsBody, BodyFault}
-use Rattle.http_reading.specs.Requests.{Reads, HeadFault, BehindHead, HasFault}
+use Rattle.http_reading.specs.Bodies.{ReadsBody}
+use Rattle.http_reading.specs.Requests.{Reads, HeadFault}
 use Rattle.http_reading.specs.Laws.{OneRequest, NoFault, NoneNoFault}
 use Rattle.http_reading.specs.declared.request.Request.{Request}
 use Rattle.http_reading.specs.declared.fault.HttpFault.{HttpFault}

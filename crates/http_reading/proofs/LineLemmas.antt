@@ -1,16 +1,14 @@
 -- Lines before chunks: where none can begin, and what the parser tells of the first 16,384 bytes.
-use Rattle.std.proofs.Common.{◌≡◌, ◌≢◌, ℕ, ◌+◌, ◌-◌, ◌<◌, ◌≤◌, Bool, true, false, List, [], ◌∷◌, ◌++◌, length, take, drop, refl, sym, ap, ◌∙◌, subst, arith, append-nil, length-take, length-drop, length-append, take-append-drop}
+use Rattle.std.proofs.Common.{◌≡◌, ℕ, ◌+◌, ◌<◌, ◌≤◌, List, [], ◌∷◌, ◌++◌, length, take, drop, sym, ap, ◌∙◌, subst, arith, append-nil, length-take, length-append, take-append-drop}
 use Rattle.std.proofs.lemmas.List.{take_all, take-take}
 use Rattle.httparse.specs.Grammar.{ChunkLine, print_chunk_line, ReadsChunkLine, HasNoChunkLine, NeverHasChunkLine, MayBecomeChunkLine}
 use Rattle.httparse.specs.Spans.{IsChunkLineAt}
 use Rattle.httparse.proofs.ChunkLemmas.{ReadsChunkLine-append}
 use Rattle.httparse.proofs.OpenLemmas.{chunk_may, digits_cut}
 use Rattle.std.proofs.lemmas.List.Elements.{All-nil}
-use Rattle.std.specs.Char.{is_ascii_hexdigit}
 use Rattle.http_reading.specs.Plans.{most_line}
-use Rattle.http_reading.specs.Chunks.{Line, OpenLine, LongLine, BadLine}
+use Rattle.http_reading.specs.Chunks.{OpenLine, LongLine, BadLine}
 use Rattle.http_reading.specs.ChunkReads.{FirstBad, LineAt}
-use Rattle.http_reading.specs.declared.size_line.SizeLine.{SizeLine}
 use Rattle.http_reading.proofs.HeadLemmas.{behind_front}
 
 -- a front of bytes with which no line begins holds none

@@ -1,7 +1,7 @@
 -- From the bytes that a call read to all that the buffer and the link have.
-use Rattle.std.proofs.Common.{◌≡◌, ℕ, Bool, true, false, List, [], ◌∷◌, ◌++◌, Option, Some, None, IfSome, MatchOption, refl, sym, ap, ◌∙◌, subst, append_assoc, append-nil}
+use Rattle.std.proofs.Common.{◌≡◌, ℕ, Bool, true, false, List, [], ◌∷◌, ◌++◌, Option, Some, None, IfSome, MatchOption, refl, sym, ap, ◌∙◌, subst, append_assoc}
 use Rattle.std.specs.Io.KnownBytes.{Consumes}
-use Rattle.http_reading.specs.Draws.{Draws, Fails}
+use Rattle.http_reading.specs.Draws.{Fails}
 use Rattle.http_reading.specs.Requests.{Reads, HasFault, Took, stream, TakesNone, TakesRequest, FaultOf}
 use Rattle.http_reading.specs.declared.request.Request.{Request}
 use Rattle.http_reading.specs.declared.fault.HttpFault.{HttpFault}

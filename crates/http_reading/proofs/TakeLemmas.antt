@@ -1,17 +1,16 @@
 -- A request of a head and the body behind it.
-use Rattle.std.proofs.Common.{◌≡◌, ◌≢◌, ℕ, ◌+◌, ◌≤◌, Bool, true, false, ◌||◌, List, [], ◌∷◌, ◌++◌, length, drop, Option, Some, None, refl, sym, ap, ◌∙◌, subst, append-nil, inl, inr, ltb, leb, cond}
+use Rattle.std.proofs.Common.{◌≡◌, ◌≢◌, ℕ, Bool, true, false, ◌||◌, List, [], ◌∷◌, ◌++◌, length, drop, Option, Some, refl, sym, subst, append-nil, inr, cond}
 use Rattle.std.specs.Prelude.{codes}
 use Rattle.std.proofs.lemmas.List.{drop-append-le}
 use Rattle.httparse.specs.Grammar.{print_request}
-use Rattle.http_reading.specs.Plans.{plan_of, plan_by, sized, is_number, fields_of, values_of}
-use Rattle.http_reading.specs.Draws.{Draws, Fails}
+use Rattle.http_reading.specs.Plans.{plan_of, plan_by, fields_of, values_of}
+use Rattle.http_reading.specs.Draws.{Fails}
 use Rattle.http_reading.specs.Heads.{HeadAt, HeadRead}
 use Rattle.http_reading.specs.Bodies.{ReadsBody, BodyFault}
 use Rattle.http_reading.specs.BodyReads.{BodyRead, Behind}
-use Rattle.http_reading.specs.Requests.{ReadsHead, Reads, BehindHead, HasFault, Took}
+use Rattle.http_reading.specs.Requests.{ReadsHead, HasFault, Took}
 use Rattle.http_reading.specs.declared.head.Head.{Head}
 use Rattle.http_reading.specs.declared.body.Body.{Body}
-use Rattle.http_reading.specs.declared.request.Request.{Request}
 use Rattle.http_reading.specs.declared.plan.BodyPlan.{BodyPlan}
 use Rattle.http_reading.specs.declared.plan.BodyPlan.TheVariants.{Empty, Sized, Chunked, ToEnd, Bad, TooLarge as Huge}
 use Rattle.http_reading.specs.declared.fault.HttpFault.{HttpFault}

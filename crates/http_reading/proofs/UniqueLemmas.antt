@@ -1,10 +1,10 @@
 -- Bytes begin with at most one body of a plan, and one that they begin with has no fault.
-use Rattle.std.proofs.Common.{◌≡◌, ◌≢◌, ℕ, ◌+◌, ◌-◌, ◌<◌, ◌≤◌, ◌⊎◌, Bool, true, false, List, [], ◌∷◌, ◌++◌, length, take, drop, refl, sym, ap, ◌∙◌, subst, arith, append_assoc, append-nil, length-append, length-take, length-drop, take-append-drop, inl, inr}
+use Rattle.std.proofs.Common.{◌≡◌, ℕ, ◌+◌, ◌-◌, ◌≤◌, Bool, false, List, [], ◌∷◌, ◌++◌, length, take, drop, refl, sym, ap, ◌∙◌, subst, arith, length-append, take-append-drop, inl, inr}
 use Rattle.std.proofs.Math.Seq.{take-append-add}
-use Rattle.httparse.specs.Grammar.{ChunkLine, print_chunk_line, chunk_size, ReadsChunkLine, HasNoChunkLine, NeverHasChunkLine}
+use Rattle.httparse.specs.Grammar.{ChunkLine, print_chunk_line, chunk_size, ReadsChunkLine, HasNoChunkLine}
 use Rattle.httparse.proofs.ChunkLemmas.{chunk_line_unique}
 use Rattle.http_reading.specs.Draws.{IsOutside}
-use Rattle.http_reading.specs.Plans.{most_body, most_line}
+use Rattle.http_reading.specs.Plans.{most_line}
 use Rattle.http_reading.specs.Chunks.{Chunk, Line, ReadsChunk, ReadsChunks, contents_of, ReadsChunked, TailFault, ChunkedFault}
 use Rattle.http_reading.specs.Bodies.{ReadsBody, BodyFault}
 use Rattle.http_reading.specs.declared.plan.BodyPlan.{BodyPlan}

@@ -5,7 +5,7 @@ use Rattle.http_reading.specs.Chunks.{ReadsChunked, ChunkedFault}
 use Rattle.http_reading.specs.declared.plan.BodyPlan.{BodyPlan}
 use Rattle.http_reading.specs.declared.plan.BodyPlan.TheVariants.{Empty, Sized, Chunked, ToEnd, Bad, TooLarge as Huge}
 use Rattle.http_reading.specs.declared.fault.HttpFault.{HttpFault}
-use Rattle.http_reading.specs.declared.fault.HttpFault.TheVariants.{Ended, BadHead, TooLarge, BadBody, LinkFault, NoMemory}
+use Rattle.http_reading.specs.declared.fault.HttpFault.TheVariants.{Ended, TooLarge, BadBody, LinkFault, NoMemory}
 
 -- the bytes behind a head begin with this body, and `rest` follows it; `ended` tells whether the bytes
 -- are all that the link had

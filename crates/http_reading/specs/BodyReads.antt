@@ -1,5 +1,5 @@
 -- Bodies that a call has read.
-use Rattle.std.specs.Prelude.{ℕ, ◌≡◌, ◌≤◌, Bool, List, length, drop, Option}
+use Rattle.std.specs.Prelude.{ℕ, ◌≤◌, Bool, List, length, drop, Option}
 use Rattle.http_reading.specs.Draws.{Draws}
 use Rattle.http_reading.specs.Bodies.{ReadsBody, BodyFault}
 use Rattle.http_reading.specs.declared.plan.BodyPlan.{BodyPlan}

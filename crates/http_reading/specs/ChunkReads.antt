@@ -3,7 +3,7 @@ use Rattle.std.specs.Prelude.{ℕ, ◌≡◌, ◌≢◌, ◌+◌, ◌<◌, ◌�
 use Rattle.httparse.specs.Grammar.{ChunkLine, print_chunk_line, chunk_size, MayBecomeChunkLine, NeverHasChunkLine}
 use Rattle.http_reading.specs.Plans.{most_body}
 use Rattle.http_reading.specs.Draws.{Draws}
-use Rattle.http_reading.specs.Chunks.{Chunk, Line, ReadsChunk, OpenLine, LongLine, BadLine, TailFault}
+use Rattle.http_reading.specs.Chunks.{Line, ReadsChunk, LongLine, BadLine, TailFault}
 use Rattle.http_reading.specs.declared.size_line.SizeLine.{SizeLine}
 use Rattle.http_reading.specs.declared.chunks.ReadTo.{ReadTo}
 use Rattle.http_reading.specs.declared.fault.HttpFault.{HttpFault}

@@ -1,4 +1,4 @@
-use Rattle.std.proofs.Common.{drop, arith, ap, length, length-drop, refl, false}
+use Rattle.std.proofs.Common.{drop, arith, ap, length, length-drop, false}
 use Rattle.std.proofs.lemmas.Result.{err_from_is_err_and}
 use Rattle.http_reading.specs.BodyReads.{Behind}
 use Rattle.http_reading.specs.declared.plan.BodyPlan.TheVariants.{Sized}

@@ -1,4 +1,4 @@
-use Rattle.std.proofs.Common.{subst, sym, ◌<◌, length}
+use Rattle.std.proofs.Common.{subst, sym}
 use Rattle.httparse.specs.Spans.{header_bytes}
 use Rattle.http_reading.specs.Found.{IsFound}
 use Rattle.http_reading.proofs.FieldLemmas.{values_more}

@@ -1,4 +1,4 @@
-use Rattle.std.proofs.Common.{ℕ, ◌-◌, ◌≤◌, vec_len, length, false}
+use Rattle.std.proofs.Common.{◌-◌, ◌≤◌, vec_len, false}
 use Rattle.http_reading.specs.Draws.{Draws}
 use Rattle.http_reading.proofs.fill.fill_line.Given as goal
 

@@ -1,4 +1,4 @@
-use Rattle.std.proofs.Common.{◌≤◌, length, arith, sym, length-take-le}
+use Rattle.std.proofs.Common.{arith, sym, length-take-le}
 use Rattle.std.proofs.lemmas.List.{take_all}
 use Rattle.http_reading.proofs.head.front.Goals as goal
 

@@ -1,9 +1,8 @@
-use Rattle.std.proofs.Common.{sym, subst, inl, refl, List, ℕ, take}
+use Rattle.std.proofs.Common.{subst, inl, take}
 use Rattle.httparse.specs.declared.Error.{Error}
 use Rattle.httparse.specs.Grammar.{HasNoRequest, MayBecomeRequest}
 use Rattle.httparse.specs.Spans.{IsRequestWithin, IsRequestOf}
 use Rattle.http_reading.specs.Heads.{HeadSays}
-use Rattle.http_reading.specs.Plans.{most_line}
 use Rattle.http_reading.proofs.HeadLemmas.{request_head_at, open_head, long_head, complete_is, partial_is}
 use Rattle.http_reading.proofs.head.parse_head.Goals as goal
 

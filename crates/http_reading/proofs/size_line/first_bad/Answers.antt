@@ -1,4 +1,4 @@
-use Rattle.std.proofs.Common.{◌≡◌, ◌+◌, ℕ, subst, sym, arith, take}
+use Rattle.std.proofs.Common.{◌≡◌, ◌+◌, subst, sym, arith, take}
 use Rattle.std.proofs.Math.Seq.{take-length}
 use Rattle.httparse.specs.Grammar.{NeverHasChunkLine}
 use Rattle.http_reading.proofs.LineLemmas.{may_none, never_some, never_front}

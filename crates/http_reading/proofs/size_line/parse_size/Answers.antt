@@ -1,4 +1,4 @@
-use Rattle.std.proofs.Common.{ℕ, length, ap, refl, sym, ◌∙◌, subst, inl, arith, length-take}
+use Rattle.std.proofs.Common.{ℕ, length, ap, refl, sym, ◌∙◌, subst, arith, length-take}
 use Rattle.httparse.specs.declared.InvalidChunkSize.{InvalidChunkSize}
 use Rattle.httparse.specs.Grammar.{ChunkLine, HasNoChunkLine, MayBecomeChunkLine}
 use Rattle.httparse.specs.Spans.{IsChunkLineAt}

@@ -1,9 +1,9 @@
-use Rattle.std.proofs.Common.{sym, subst, inl, refl, ap, ◌∙◌, map, List, ℕ, take}
+use Rattle.std.proofs.Common.{subst, inl, refl, ap, ◌∙◌, map, take}
 use Rattle.httparse.specs.declared.Error.{Error}
 use Rattle.httparse.specs.Grammar.{HasNoResponse, MayBecomeResponse}
 use Rattle.httparse.specs.Spans.{IsResponseWithin, IsResponseOf}
 use Rattle.httparse.specs.Spans.{header_bytes}
-use Rattle.http_reading.specs.Plans.{most_line, plan_of, to_end}
+use Rattle.http_reading.specs.Plans.{plan_of, to_end}
 use Rattle.http_reading.proofs.HeadLemmas.{response_head_at, open_top, long_top, complete_is, partial_is}
 use Rattle.http_reading.proofs.top.parse_top.Goals as goal
 

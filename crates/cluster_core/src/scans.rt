@@ -137,8 +137,7 @@ impl Cluster {
             return Ok(Prepared::refusal(alloc, why));
         }
         if let Some(scan) = &self.scan {
-            let why = ClusterRefusal::Busy(scan.owner);
-            return Ok(Prepared::refusal(alloc, why));
+            return Ok(Prepared::refusal(alloc, ClusterRefusal::Busy(scan.owner)));
         }
         let threads = self.settings.fast as usize + self.settings.slow as usize;
         let limit = threads * JOBS_PER_THREAD as usize;

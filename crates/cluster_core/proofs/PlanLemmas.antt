@@ -1,5 +1,5 @@
 -- Plans that change nothing, and plans of changes.
-use Rattle.std.proofs.Common.{◌≡◌, ℕ, [], Bool, true, false, sym, ap, subst}
+use Rattle.std.proofs.Common.{◌≡◌, ℕ, [], Bool, true, false, refl, sym, ap, ◌∙◌, subst}
 use Rattle.job_values.specs.declared.cluster.ClusterEvent.{ClusterEvent}
 use Rattle.job_values.specs.declared.cluster.ClusterReply.{ClusterReply}
 use Rattle.job_values.specs.declared.cluster.ClusterReply.TheVariants.{Refused}
@@ -17,7 +17,7 @@ use Rattle.cluster_core.specs.Stands.{Stands}
 
 -- a refusal changes nothing
 pub planned-refused : (kept : Kept) (e : ClusterEvent) (why : ClusterRefusal) → ((h : History) → Stands kept (accepted h) → reply_of h e ≡ refused why) → IsPlanned kept e (record { reply = Refused why; changes = []; node = node.Nothing })
-planned-refused kept e why replies = record { allowed = tt; answers = λ h s. record { reply = sym (replies h s); stands = s } }
+planned-refused kept e why replies = record { allowed = tt; refused = λ is. refl; answers = λ h s. record { reply = sym (replies h s); stands = s } }
 
 -- changes that are allowed answer an event, where the reply is the defined one, and what is kept then stands for the accepted entries with this one
 pub planned : (kept : Kept) (e : ClusterEvent) (prepared : Prepared) → AreAllowed kept.tables prepared.changes → is_refusal prepared.reply ≡ false
@@ -26,6 +26,7 @@ pub planned : (kept : Kept) (e : ClusterEvent) (prepared : Prepared) → AreAllo
     → IsPlanned kept e prepared
 planned kept e prepared allowed accepts replies stands = record {
   allowed = allowed;
+  refused = λ is. let e : true ≡ false = sym is ∙ accepts in let never : ⊥ = cc e in absurd never;
   answers = λ h s. record {
     reply = sym (replies h s);
     stands = let P : Bool → Type 0 = λ b. Stands (committed kept prepared) (with_entry b (accepted h) e prepared.reply) in subst P (sym accepts) (stands (accepted h) s);

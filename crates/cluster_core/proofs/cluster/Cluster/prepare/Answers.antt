@@ -8,5 +8,6 @@ pub returns-clause-prepared : goal.returns-clause-prepared
 returns-clause-prepared c =
     let P : Kept → Type 0 = λ k. KeptAnswers k c.args.event.now c.in_ok-prepared.prepared.reply (committed k c.in_ok-prepared.prepared) in record {
       can = c.in_ok-make_room.ensures.can c.in_ok-prepared.ensures.allowed;
+      refused = c.in_ok-prepared.ensures.refused;
       answers = subst P (sym c.make_room.ensures.same) c.in_ok-prepared.ensures.answers;
     }

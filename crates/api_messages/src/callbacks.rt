@@ -1,15 +1,15 @@
-//! The messages of `callback`: an array of results.
+//! The messages of `callback`: an array of results, and one result alone.
 ghost use Rattle.std.specs.Prelude.{◌≡◌, ◌≤◌, length, map, Ok, IfOk};
 ghost use Rattle.std.specs.List.{list_all};
 ghost use Rattle.serde_json.specs.View.{view};
 ghost use Rattle.api_messages.specs.Tables.{item_rows};
-ghost use Rattle.api_messages.specs.Reading.{Gives, cells_at, is_object, items_at, results_in, callbacks_at};
+ghost use Rattle.api_messages.specs.Reading.{Gives, cells_at, is_object, items_at, results_in, callbacks_at, message_at};
 ghost use Rattle.api_messages.specs.Seen.{item_cells};
 ghost use Rattle.api_messages.specs.Meaning.{most_bytes, most_items};
 ghost use Rattle.api_messages.specs.Writing.{Fit, FitAll, object_of, array_of};
 ghost use Rattle.serde_json.specs.Written.{compact_text};
 
-use crate::body::value_of;
+use crate::body::{object_of as object_in, value_of};
 use crate::fault::MessageFault;
 use crate::member::{log_id, log_moment, signed};
 use crate::text_member::cut_text;
@@ -37,6 +37,15 @@ fn item_of(alloc: Global, object: &Value) -> Result<CallbackItem, MessageFault>
         code,
         msg: ResultText::of(msg),
     })
+}
+
+/// The result of a body that is one item, or its first fault.
+#[tactic(auto, unfolding(crate::specs::Reading::message_at))]
+pub fn read_item(alloc: Global, bytes: &[u8]) -> Result<CallbackItem, MessageFault>
+    ensures gives { Gives item_cells result (message_at item_rows bytes.now) }
+{
+    let object = object_in(alloc, bytes)?;
+    item_of(alloc, &object)
 }
 
 fn all_objects(values: &[Value]) -> bool
@@ -92,6 +101,20 @@ fn item_value(alloc: Global, item: &CallbackItem) -> Result<Value, AllocError>
         "logDateTim": item.log_moment.get(),
         "logId": item.log.get(),
     })
+}
+
+/// The text of one item.
+pub fn write_item(alloc: Global, item: &CallbackItem) -> Result<Seq<u8>, NoMemory>
+    ensures text { IfOk result
+        (λ b. b ≡ compact_text (object_of item_rows (item_cells item.now))) }
+    ensures fits { IfOk result (λ _. Fit item_rows (item_cells item.now)) }
+    ensures reads { IfOk result (λ b. length b ≤ most_bytes
+        → message_at item_rows b ≡ Ok (item_cells item.now)) }
+{
+    let Ok(value) = item_value(alloc, item) else {
+        return Err(NoMemory);
+    };
+    text_of(alloc, &value)
 }
 
 fn array_value(alloc: Global, items: &[CallbackItem]) -> Result<Value, AllocError>

@@ -19,7 +19,9 @@ mod token;
 mod written;
 
 pub use body::MOST_BYTES;
-pub use callbacks::{MOST_ITEMS, MOST_RESULT_BYTES, read_callbacks, write_callbacks};
+pub use callbacks::{
+    MOST_ITEMS, MOST_RESULT_BYTES, read_callbacks, read_item, write_callbacks, write_item,
+};
 pub use fault::MessageFault;
 pub use idle_beat::{IdleBeatMessage, read_idle_beat, write_idle_beat};
 pub use kill::{KillMessage, read_kill, write_kill};

@@ -9,6 +9,7 @@ mod lines;
 mod messages;
 mod parts;
 mod replays;
+mod requests;
 
 use std::alloc::Global;
 use std::io::Print;
@@ -21,6 +22,7 @@ fn smoke<R: Print + Clock + Threads + Wait + Sync>(rt: &R, alloc: Global) -> io:
     cron::run(rt, alloc, 20, false)?;
     parts::run(rt, alloc, 2_000, false)?;
     messages::run(rt, alloc, 2, false)?;
+    requests::run(rt, alloc, 20, false)?;
     acts::run(rt, alloc, 200, false)?;
     lines::run(rt, alloc, 2, false)?;
     replays::run(rt, alloc, 20, false)?;
@@ -35,6 +37,7 @@ fn main(rt: HostRuntime) -> io::Result<()> {
             "cron" => cron::run(&rt, alloc, 200_000, true)?,
             "parts" => parts::run(&rt, alloc, 2_000_000, true)?,
             "messages" => messages::run(&rt, alloc, 1_000, true)?,
+            "requests" => requests::run(&rt, alloc, 20_000, true)?,
             "lock" => acts::run(&rt, alloc, 200_000, true)?,
             "lines" => lines::run(&rt, alloc, 200_000, true)?,
             "replays" => replays::run(&rt, alloc, 100_000, true)?,

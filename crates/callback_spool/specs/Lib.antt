@@ -1,3 +1,4 @@
 pub mod Batches
 pub mod Lists
 pub mod Answers
+pub mod Different

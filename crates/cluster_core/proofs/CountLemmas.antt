@@ -1,20 +1,19 @@
 -- What is counted over the admins.
-use Rattle.std.proofs.Common.{◌≡◌, ℕ, suc, ◌+◌, ◌*◌, ◌-◌, ◌^◌, ◌<◌, ◌≤◌, List, [], ◌∷◌, map, length, min, refl, sym, ap, ◌∙◌, arith}
+use Rattle.std.proofs.Common.{◌≡◌, ℕ, suc, ◌*◌, ◌≤◌, List, [], ◌∷◌, map, length, refl, sym, ap, ◌∙◌, arith}
 use Rattle.std.specs.Prelude.{sum, sum_by, count_by}
 use Rattle.std.proofs.lemmas.List.Sums.{sum_by-cons, sum-map}
 use Rattle.job_values.specs.declared.job.Report.{Report}
-use Rattle.time_ring.specs.declared.ticket.Ticket.{Ticket}
 use Rattle.time_ring.specs.Ring.{Ring, ticket_count}
 use Rattle.trigger_pool.specs.Pool.{PoolState, Queues}
-use Rattle.cluster_history.specs.History.{History, accepted}
+use Rattle.cluster_history.specs.History.{History}
 use Rattle.cluster_history.specs.Jobs.{jobs_of}
 use Rattle.cluster_history.specs.Nodes.{admins}
 use Rattle.cluster_history.specs.Replies.{counted_to}
 use Rattle.cluster_history.specs.Tickets.{waiting, waiting_at}
-use Rattle.cluster_history.specs.Logs.{queue_of, logs_of, is_settled, is_failed}
+use Rattle.cluster_history.specs.Logs.{logs_of, is_settled, is_failed}
 use Rattle.cluster_history.specs.Runs.{waiting_in, queued_in, counted}
-use Rattle.cluster_core.specs.Kept.{Kept, ClusterState, kept_of, pools_at}
-use Rattle.cluster_core.specs.Stands.{Stands, ring_of, pools_of}
+use Rattle.cluster_core.specs.Kept.{pools_at}
+use Rattle.cluster_core.specs.Stands.{ring_of, pools_of}
 use Rattle.cluster_core.proofs.AdminLemmas.{map-same}
 use Rattle.cluster_core.proofs.RingLemmas.{ring-count}
 

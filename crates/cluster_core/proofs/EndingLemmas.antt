@@ -1,7 +1,7 @@
 -- Logs that are ended: the changes are allowed, and end the rows with these ids.
-use Rattle.std.proofs.Common.{◌≡◌, ℕ, ◌+◌, ◌*◌, ◌<◌, ◌≤◌, ◌⊎◌, List, [], ◌∷◌, ◌++◌, Bool, true, false, ◌||◌, cond, eqb, nat_lt, Option, Some, None, length, map, take, get_or, min, ◌^◌, ◌-◌, refl, sym, ap, ◌∙◌, subst, ⊎_elim, append-nil, arith}
+use Rattle.std.proofs.Common.{◌≡◌, ℕ, ◌+◌, ◌<◌, List, [], ◌∷◌, ◌++◌, Bool, true, false, ◌||◌, cond, eqb, Option, Some, None, length, map, take, get_or, refl, sym, ap, ◌∙◌, subst, append-nil, arith}
 use Rattle.std.specs.Prelude.{slice_index_or, ℤ, pos, negsuc}
-use Rattle.std.specs.List.{list_any, concat, find, All, range_with_len, sum}
+use Rattle.std.specs.List.{list_any, concat, range_with_len, sum}
 use Rattle.std.proofs.lemmas.Bool.Decides.{nat_tests}
 use Rattle.std.proofs.lemmas.List.{append_assoc, map-id, take_more, map_more, get_or_default}
 use Rattle.std.proofs.lemmas.List.Folds.{concat-append}
@@ -11,12 +11,12 @@ use Rattle.job_records.specs.declared.change.Change.{Change}
 use Rattle.job_records.specs.declared.change.Change.TheVariants.{PutLog}
 use Rattle.job_records.specs.declared.log.Log.{Log}
 use Rattle.job_records.specs.Changes.{put_row, applied, applied_all, AreAllowed}
-use Rattle.job_records.specs.Rows.{row_with, changed}
+use Rattle.job_records.specs.Rows.{changed}
 use Rattle.job_records.specs.Rules.{HasAddress, KeepsRules}
 use Rattle.job_records.specs.Tables.{Tables}
 use Rattle.job_records.proofs.Keeping.{keeps_log}
 use Rattle.job_records.proofs.RowLemmas.{rises-from_rising}
-use Rattle.trigger_pool.specs.Pool.{PoolState, Queues}
+use Rattle.trigger_pool.specs.Pool.{PoolState}
 use Rattle.cluster_history.specs.Logs.{ended_log, log_with}
 use Rattle.cluster_core.specs.Endings.{ending_of, endings, ended_in, over_first}
 use Rattle.cluster_core.proofs.PutLemmas.{found-id, found-within, put-changed}

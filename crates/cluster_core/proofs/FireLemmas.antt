@@ -1,11 +1,9 @@
 -- One firing of a job.
-use Rattle.std.proofs.Common.{◌≡◌, ℕ, ◌+◌, ◌<◌, ◌≤◌, List, [], ◌++◌, Bool, true, false, cond, eqb, nat_lt, length, map, Option, Some, None, refl, sym, ap, ◌∙◌, subst, Vec, Global, arith}
+use Rattle.std.proofs.Common.{◌≡◌, ℕ, ◌+◌, ◌<◌, ◌≤◌, List, [], ◌++◌, true, false, cond, eqb, nat_lt, length, map, Option, Some, None, refl, sym, ap, ◌∙◌, subst, Vec, Global, arith}
 use Rattle.std.specs.Prelude.{unwrap_or}
 use Rattle.std.proofs.lemmas.Bool.Decides.{nat_tests}
 use Rattle.std.proofs.lemmas.List.FromFn.{length-map-range_with_len}
-use Rattle.job_values.specs.declared.job.Opened.{Opened}
 use Rattle.job_values.specs.declared.words.TriggerKind.{TriggerKind}
-use Rattle.job_records.specs.declared.change.Change.{Change}
 use Rattle.job_records.specs.declared.group.Group.{Group}
 use Rattle.job_records.specs.declared.job.Job.{Job}
 use Rattle.job_records.specs.declared.last_ids.LastIds.{LastIds}
@@ -23,7 +21,7 @@ use Rattle.cluster_history.specs.Nodes.{runs, admins}
 use Rattle.cluster_history.specs.Looks.{job_with}
 use Rattle.cluster_history.specs.Jobs.{jobs_of}
 use Rattle.cluster_history.specs.Replies.{reply_after, fire_reply, if_ids, refused}
-use Rattle.cluster_history.specs.Firings.{Shot, shots_with, shots_by, shot_for, shards, shots_asked, shots_by_hand}
+use Rattle.cluster_history.specs.Firings.{Shot, shots_with, shot_for, shards, shots_asked, shots_by_hand}
 use Rattle.cluster_history.specs.Groups.{group_with, addresses_in, groups_of}
 use Rattle.cluster_history.specs.Logs.{placed_from, opened_of, last_log, queue_of, opened_logs, behind}
 use Rattle.cluster_core.specs.declared.firing.Fired.{Fired}

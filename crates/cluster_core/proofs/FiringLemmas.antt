@@ -1,5 +1,5 @@
 -- What a firing of an admin makes of the rows and of the pools.
-use Rattle.std.proofs.Common.{◌≡◌, ℕ, suc, ◌+◌, ◌<◌, ◌≤◌, List, [], ◌∷◌, ◌++◌, Bool, true, false, cond, eqb, nat_lt, length, map, get_or, set, All, refl, sym, ap, ◌∙◌, subst, append_assoc, append-nil, length-append, arith}
+use Rattle.std.proofs.Common.{◌≡◌, ℕ, ◌+◌, ◌<◌, ◌≤◌, List, [], ◌∷◌, ◌++◌, Bool, true, false, cond, eqb, nat_lt, length, map, All, refl, sym, ap, ◌∙◌, subst, append_assoc, append-nil, length-append, arith}
 use Rattle.std.proofs.Common.{pos}
 use Rattle.std.specs.Ordering.{int_eq}
 use Rattle.std.proofs.lemmas.Bool.Decides.{nat_tests}
@@ -19,7 +19,7 @@ use Rattle.trigger_pool.specs.Reports.{no_counts}
 use Rattle.cluster_history.specs.History.{History}
 use Rattle.cluster_history.specs.Nodes.{admins}
 use Rattle.cluster_history.specs.Firings.{Shot}
-use Rattle.cluster_history.specs.Logs.{Placed, placed_from, one_more, pool_of, log_of, added_of, behind, queue_of, last_log, logs_of, opened_logs}
+use Rattle.cluster_history.specs.Logs.{placed_from, one_more, pool_of, log_of, added_of, behind, queue_of, last_log, opened_logs}
 use Rattle.cluster_core.specs.Kept.{Kept, pools_at}
 use Rattle.cluster_core.specs.Commits.{entered, pools_after}
 use Rattle.cluster_core.specs.Openings.{put_of, entering_of, opening_changes, with_last_log}

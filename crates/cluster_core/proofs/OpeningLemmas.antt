@@ -6,7 +6,7 @@ use Rattle.std.specs.List.{range_with_len}
 use Rattle.job_values.specs.declared.job.Opened.{Opened}
 use Rattle.job_values.specs.declared.words.TriggerKind.{TriggerKind}
 use Rattle.job_records.specs.declared.job.Job.{Job}
-use Rattle.cluster_history.specs.Firings.{Shot, shot_for, shots_by}
+use Rattle.cluster_history.specs.Firings.{Shot, shot_for}
 use Rattle.cluster_history.specs.Logs.{Placed, placed_from, pool_of, one_more, opened_of}
 use Rattle.cluster_history.specs.Replies.{queued_after}
 use Rattle.cluster_core.specs.declared.opening.Openings.{Openings}

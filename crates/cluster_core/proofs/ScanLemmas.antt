@@ -1,5 +1,5 @@
 -- Beginning a scan.
-use Rattle.std.proofs.Common.{◌≡◌, ℕ, ◌<◌, List, [], ◌∷◌, true, Option, Some, None, length, refl, sym, ap, ◌∙◌, subst}
+use Rattle.std.proofs.Common.{◌≡◌, ℕ, List, [], ◌∷◌, true, Some, None, length, refl, sym, ap, ◌∙◌, subst}
 use Rattle.job_values.specs.declared.cluster.ClusterEvent.TheVariants.{ScanBegin}
 use Rattle.job_values.specs.declared.cluster.ClusterReply.TheVariants.{Begun}
 use Rattle.job_values.specs.declared.cluster.ClusterRefusal.TheVariants.{Busy}
@@ -10,7 +10,7 @@ use Rattle.cluster_history.specs.declared.settings.Settings.{Settings}
 use Rattle.cluster_history.specs.History.{History, After, accepted, settings_of}
 use Rattle.cluster_history.specs.Nodes.{runs}
 use Rattle.cluster_history.specs.Pages.{page_in, page_limit, begun}
-use Rattle.cluster_history.specs.Jobs.{scan_of, page_of, jobs_of}
+use Rattle.cluster_history.specs.Jobs.{page_of}
 use Rattle.cluster_history.specs.Replies.{reply_after, begin_reply, refused}
 use Rattle.cluster_core.specs.Commits.{node_changed}
 use Rattle.cluster_core.specs.Kept.{Kept}

@@ -1,15 +1,12 @@
 -- What is kept of one admin, where a history is stood for; the cluster without rows.
-use Rattle.std.proofs.Common.{◌≡◌, ℕ, ◌<◌, List, [], ◌∷◌, Bool, false, map, get_or, replicate, None, refl, sym, ap, ◌∙◌, arith}
-use Rattle.std.specs.List.{range_with_len}
-use Rattle.time_ring.specs.declared.ticket.Ticket.{Ticket}
+use Rattle.std.proofs.Common.{◌≡◌, ℕ, ◌<◌, List, [], Bool, false, map, replicate, None, refl, ap, ◌∙◌, arith}
 use Rattle.time_ring.specs.Ring.{Ring, no_tickets}
-use Rattle.trigger_pool.specs.Pool.{PoolState, Queues, no_logs}
+use Rattle.trigger_pool.specs.Pool.{PoolState, no_logs}
 use Rattle.job_records.specs.Room.{RecordsState}
 use Rattle.job_records.specs.Tables.{no_rows}
 use Rattle.cluster_history.specs.declared.settings.Settings.{Settings}
-use Rattle.cluster_history.specs.History.{History, Begin, After, accepted, empty_opening}
-use Rattle.cluster_history.specs.Nodes.{runs, admins}
-use Rattle.cluster_core.specs.Kept.{Kept, ClusterState, kept_of, ring_at, pools_at}
+use Rattle.cluster_history.specs.History.{History, Begin, empty_opening}
+use Rattle.cluster_core.specs.Kept.{Kept, kept_of, ring_at, pools_at}
 use Rattle.cluster_core.specs.Stands.{Stands, ring_of, pools_of}
 use Rattle.cluster_core.proofs.AdminLemmas.{at-admin}
 use Rattle.cluster_core.proofs.RingLemmas.{rings-stop_all}

@@ -1,8 +1,6 @@
 -- A step of a scan.
-use Rattle.std.proofs.Common.{◌≡◌, ℕ, ◌+◌, ◌<◌, ◌≤◌, List, [], ◌∷◌, ◌++◌, Bool, true, false, cond, eqb, nat_lt, length, map, Option, Some, None, refl, sym, ap, ◌∙◌, subst, append-nil, arith}
-use Rattle.std.proofs.lemmas.Bool.Decides.{nat_tests}
+use Rattle.std.proofs.Common.{◌≡◌, ℕ, ◌+◌, ◌<◌, List, [], ◌∷◌, ◌++◌, Bool, true, cond, eqb, length, map, Option, Some, None, refl, sym, ap, ◌∙◌, subst, arith}
 use Rattle.std.specs.List.{slice_get}
-use Rattle.std.specs.Prelude.{is_some}
 use Rattle.job_values.specs.declared.cluster.ClusterEvent.TheVariants.{ScanStep}
 use Rattle.job_values.specs.declared.cluster.ClusterRefusal.TheVariants.{IdsSpent, NotScanning}
 use Rattle.job_values.specs.declared.cluster.ClusterReply.{ClusterReply}
@@ -16,10 +14,9 @@ use Rattle.job_records.specs.Tables.{Tables}
 use Rattle.job_records.proofs.Keeping.{applied_append, allowed_append, all_keep}
 use Rattle.job_records.proofs.RowLemmas.{rises-from_rising}
 use Rattle.time_ring.specs.declared.ticket.Ticket.{Ticket as RingTicket}
-use Rattle.cluster_history.specs.declared.scan.Scan.{Scan}
 use Rattle.cluster_history.specs.declared.ticket.Ticket.{Ticket}
 use Rattle.cluster_history.specs.declared.settings.Settings.{Settings}
-use Rattle.cluster_history.specs.History.{History, After, accepted, settings_of}
+use Rattle.cluster_history.specs.History.{History, After, accepted}
 use Rattle.cluster_history.specs.Nodes.{runs, admins}
 use Rattle.cluster_history.specs.Groups.{groups_of}
 use Rattle.cluster_history.specs.Pages.{stepped}
@@ -28,7 +25,7 @@ use Rattle.cluster_history.specs.Jobs.{jobs_of, ids_of, row_of, row_by, spec_of,
 use Rattle.cluster_history.specs.Tickets.{put_behind, put_due, waiting}
 use Rattle.cluster_history.specs.Firings.{Shot, shots_stepped, shots_scanned}
 use Rattle.cluster_history.specs.Logs.{last_log, queue_of, behind, opened_logs, opened_of, placed_from}
-use Rattle.cluster_history.specs.Replies.{if_running, step_reply, seat_reply, look_reply, reply_after, refused}
+use Rattle.cluster_history.specs.Replies.{step_reply, seat_reply, look_reply, reply_after, refused}
 use Rattle.cluster_core.specs.declared.pages.Sitting.{Sitting}
 use Rattle.cluster_core.specs.declared.looks.Look.{Look}
 use Rattle.cluster_core.specs.declared.firing.Fired.{Fired}
@@ -40,10 +37,10 @@ use Rattle.cluster_core.specs.Firing.{Fires}
 use Rattle.cluster_core.specs.Kept.{Kept, pools_at}
 use Rattle.cluster_core.specs.Openings.{entering_of}
 use Rattle.cluster_core.specs.Plans.{IsPlanned}
-use Rattle.cluster_core.specs.Stands.{Stands, records_of, ring_of}
+use Rattle.cluster_core.specs.Stands.{Stands, records_of}
 use Rattle.cluster_core.specs.Steps.{SitsAt, IsNotScanning, ticket_put, shots_decided}
 use Rattle.cluster_core.proofs.EditLemmas.{row-found, jobs-put, turn-allowed, row-stands, same-id}
-use Rattle.cluster_core.proofs.FireLemmas.{ids-spent, ids-left, job-found}
+use Rattle.cluster_core.proofs.FireLemmas.{ids-spent, ids-left}
 use Rattle.cluster_core.proofs.FiringLemmas.{fired-rows, fired-allowed, fired-tables, fired-pools_by, fired_changes, queue-length, with_logs, only_fast}
 use Rattle.cluster_core.proofs.PlanLemmas.{planned, answered-running}
 use Rattle.cluster_core.proofs.PutLemmas.{found-id}

@@ -1,29 +1,27 @@
 -- The stop of an admin, and of all.
-use Rattle.std.proofs.Common.{◌≡◌, ℕ, ◌+◌, ◌-◌, ◌^◌, ◌<◌, List, [], ◌∷◌, Bool, true, false, cond, eqb, length, map, min, get_or, None, refl, sym, ap, ◌∙◌, subst, arith}
-use Rattle.std.specs.List.{concat, range_with_len, sum}
+use Rattle.std.proofs.Common.{◌≡◌, ℕ, ◌-◌, ◌^◌, ◌<◌, List, [], Bool, true, false, cond, eqb, length, map, min, get_or, None, refl, sym, ap, ◌∙◌, arith}
+use Rattle.std.specs.List.{concat, sum}
 use Rattle.std.specs.Prelude.{slice_set}
 use Rattle.std.proofs.lemmas.List.FromFn.{length-map-range_with_len, get_or-map-range_with_len, fill_by_all}
 use Rattle.job_values.specs.declared.cluster.ClusterEvent.TheVariants.{NodeStop, Reopen}
 use Rattle.job_values.specs.declared.cluster.ClusterReply.TheVariants.{Stopped, Reopened}
-use Rattle.job_records.specs.declared.log.Log.{Log}
 use Rattle.job_records.specs.Rules.{KeepsRules}
 use Rattle.job_records.specs.Tables.{Tables}
 use Rattle.time_ring.specs.Ring.{ticket_count, no_tickets}
 use Rattle.trigger_pool.specs.Pool.{Queues, no_logs}
 use Rattle.trigger_pool.specs.Reports.{no_counts}
-use Rattle.cluster_history.specs.declared.scan.Scan.{Scan}
 use Rattle.cluster_history.specs.History.{History, After, accepted}
 use Rattle.cluster_history.specs.Nodes.{runs, admins}
 use Rattle.cluster_history.specs.Pages.{unless_owner}
 use Rattle.cluster_history.specs.Tickets.{waiting, waiting_at}
 use Rattle.cluster_history.specs.Logs.{queue_of, open_at, logs_of}
-use Rattle.cluster_history.specs.Replies.{if_running, counted_to, over_running}
+use Rattle.cluster_history.specs.Replies.{counted_to, over_running}
 use Rattle.cluster_history.proofs.OpenLogs.{open_count, ended_at, ended_everywhere}
 use Rattle.cluster_core.specs.declared.prepared.NodeChange.TheVariants as node
 use Rattle.cluster_core.specs.Kept.{Kept, ring_at, pools_at}
 use Rattle.cluster_core.specs.Endings.{endings, ended_in, over_first, lost_of, queued_of}
 use Rattle.cluster_core.specs.Plans.{IsPlanned}
-use Rattle.cluster_core.specs.Stands.{Stands, ring_of, pools_of, records_of}
+use Rattle.cluster_core.specs.Stands.{Stands, pools_of}
 use Rattle.cluster_core.proofs.AdminLemmas.{at-admin, set-admin, set-admin_as}
 use Rattle.cluster_core.proofs.EndingLemmas.{ends-logs}
 use Rattle.cluster_core.proofs.PlanLemmas.{planned, answered-running}

@@ -1,7 +1,6 @@
 -- The turns of the rings.
 use Rattle.std.proofs.Common.{◌≡◌, ℕ, zero, suc, ◌+◌, ◌<◌, ◌≤◌, List, [], ◌∷◌, ◌++◌, Bool, true, false, cond, eqb, Some, length, map, get_or, take, refl, sym, ap, ◌∙◌, subst, append_assoc, append-nil, length-append, arith}
 use Rattle.std.proofs.lemmas.List.{take_more}
-use Rattle.std.proofs.lemmas.List.FromFn.{length-map-range_with_len}
 use Rattle.job_values.specs.declared.words.TriggerKind.TheVariants.{Cron}
 use Rattle.job_values.specs.declared.job.Opened.{Opened}
 use Rattle.job_values.specs.declared.job.FiredTicket.{FiredTicket}
@@ -22,7 +21,7 @@ use Rattle.cluster_history.specs.Groups.{group_with, addresses_in, groups_of}
 use Rattle.cluster_history.specs.Looks.{job_with}
 use Rattle.cluster_history.specs.Jobs.{jobs_of}
 use Rattle.cluster_history.specs.Tickets.{waiting, taken, second_of}
-use Rattle.cluster_history.specs.Firings.{shot_for, shots_if, shots_by, shots_taken, shots_for, shots_turned, shards}
+use Rattle.cluster_history.specs.Firings.{shots_if, shots_by, shots_taken, shots_for, shots_turned, shards}
 use Rattle.cluster_history.specs.Logs.{placed_from, last_log, queue_of, opened_logs, behind}
 use Rattle.cluster_history.specs.Replies.{reply_after, if_ids, queued_after, fired_by, fired_from, refused}
 use Rattle.cluster_core.specs.declared.prepared.Entering.{Entering}
@@ -34,7 +33,7 @@ use Rattle.cluster_core.specs.Plans.{IsPlanned}
 use Rattle.cluster_core.specs.Stands.{Stands, in_ring, records_of}
 use Rattle.cluster_core.specs.Openings.{OpensBehind, told_of, put_of, entering_of, opening_changes}
 use Rattle.cluster_core.specs.Turning.{shots_at, shots_all, told_at, told_all, FiresBehind, FiresAll}
-use Rattle.cluster_core.proofs.FireLemmas.{ids-spent, ids-left}
+use Rattle.cluster_core.proofs.FireLemmas.{count-shots, ids-spent, ids-left}
 use Rattle.cluster_core.proofs.FiringLemmas.{fired-allowed, fired-tables, fired-pools_by, fired_changes, queue-length, with_logs, only_fast}
 use Rattle.cluster_core.proofs.OpeningLemmas.{opens-both, queued-append}
 use Rattle.cluster_core.proofs.PlanLemmas.{planned, answered-running}
@@ -48,7 +47,7 @@ shots-found t at total ticket row found count = ap (λ r. shots_if t.groups Cron
 -- and how many that are
 pub shots-many : (t : Tables) (at total : ℕ) (ticket : RingTicket) (row : Job) → job_with ticket.job t.jobs ≡ Some row → total ≡ shards row.spec.route (addresses_in (group_with row.spec.group t.groups)) → length (shots_at t at ticket) ≡ total
 shots-many t at total ticket row found count =
-    ap length (shots-found t at total ticket row found count) ∙ length-map-range_with_len (λ index. shot_for row row.spec.param Cron at total index) 0 total
+    ap (λ r. length (shots_if t.groups Cron at r)) found ∙ count-shots t.groups row.spec.param Cron at row ∙ sym count
 
 -- of one ticket
 shots-one : (t : Tables) (at : ℕ) (ticket : RingTicket) → shots_all t at (ticket ∷ []) ≡ shots_at t at ticket
@@ -184,7 +183,7 @@ pub record Turns (kept : Kept) (at queued : ℕ) (tickets : List RingTicket) (ch
   pub pools : entering ≡ map entering_of (placed_from kept.tables.last.log queued (shots_all kept.tables at tickets))
   pub told : fired ≡ told_all kept.tables at kept.tables.last.log queued tickets
 
--- they are where they fired one after another
+-- tickets that fired one after another, where nothing was opened before, are such a turn
 pub turns-all : (kept : Kept) (at queued : ℕ) (tickets : List RingTicket) (x y : Turned) (changes : List Change) → StartsAt kept.tables.last.log queued x → FiresBehind kept.tables at tickets x y
     → changes ≡ opening_changes kept.tables.last y.openings.last y.openings.puts.items → Turns kept at queued tickets changes y.openings.entering.items y.fired.items
 turns-all kept at queued tickets x y changes none fires made =

@@ -4,7 +4,7 @@ use Rattle.job_records.specs.Changes.{applied_all, AreAllowed}
 use Rattle.job_records.specs.Room.{HasRoom}
 use Rattle.time_ring.specs.declared.ticket.Ticket.{Ticket}
 use Rattle.time_ring.specs.Ring.{Ring, slot_of, room_in, with_ticket, after_turn, no_tickets}
-use Rattle.trigger_pool.specs.Pool.{PoolState, Room, Queues, no_logs, with_log, answer_at}
+use Rattle.trigger_pool.specs.Pool.{PoolState, Queues, no_logs, with_log, answer_at}
 use Rattle.trigger_pool.specs.Reports.{late_count}
 use Rattle.cluster_history.specs.Pages.{unless_owner, stepped}
 use Rattle.cluster_core.specs.declared.prepared.Entering.{Entering}

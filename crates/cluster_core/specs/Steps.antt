@@ -1,8 +1,7 @@
 -- What a step of the scan finds.
-use Rattle.std.specs.Prelude.{[], ◌∷◌, ◌++◌, None, if◌then◌else◌, ◌≡◌, ℕ, ◌==◌, ℤ, List, true, slice_get, Option, Some}
+use Rattle.std.specs.Prelude.{[], ◌∷◌, ◌++◌, None, if◌then◌else◌, ◌≡◌, ℕ, ◌==◌, List, true, slice_get, Option, Some}
 use Rattle.job_records.specs.declared.job.Job.{Job}
 use Rattle.cluster_history.specs.declared.scan.Scan.{Scan}
-use Rattle.cluster_history.specs.declared.scan.Seat.{Seat}
 use Rattle.job_values.specs.declared.cluster.ClusterRefusal.TheVariants.{NotScanning}
 use Rattle.job_records.specs.declared.group.Group.{Group}
 use Rattle.misfire_rules.specs.declared.decision.Decision.{Decision}

@@ -1,17 +1,16 @@
 -- What an executor is seen as, and what its changes leave.
-use Rattle.std.specs.Prelude.{◌≡◌, ◌≤◌, ℕ, ◌+◌, Bool, true, false, not, if◌then◌else◌, List, [], ◌∷◌, ◌++◌, Option, None, Some, length, map, filter, take, drop}
-use Rattle.job_values.specs.declared.run.CallbackItem.{CallbackItem}
+use Rattle.std.specs.Prelude.{◌≡◌, ◌<◌, ◌≤◌, ℕ, ◌+◌, false, not, if◌then◌else◌, List, [], ◌∷◌, ◌++◌, Option, None, Some, length, map, filter}
 use Rattle.job_values.specs.declared.executor.ExecutorEvent.{ExecutorEvent}
 use Rattle.job_values.specs.declared.executor.ExecutorEvent.TheVariants as event
 use Rattle.job_values.specs.declared.executor.ExecutorReply.{ExecutorReply}
 use Rattle.job_lane.specs.Runs.{without_first}
-use Rattle.executor_history.specs.declared.records.Queued.{Queued}
 use Rattle.executor_history.specs.declared.records.Working.{Working}
 use Rattle.executor_history.specs.History.{History, After, accepted, is_refusal}
 use Rattle.executor_history.specs.Runs.{is_cover, queued_run, is_queued_of, is_ready, ready_front, is_on, run_on, ended_of, expired_of, put_working}
 use Rattle.executor_history.specs.Items.{killed_items, expired_items, finished_items}
-use Rattle.executor_history.specs.Past.{Parts, parts_of, covered_items, taken_batch, left_waiting, put_id, released, known_run, add_line, is_trimmed}
+use Rattle.executor_history.specs.Past.{Parts, parts_of, covered_items, taken_batch, left_waiting, put_id, is_among, released, known_run, add_line, is_trimmed}
 use Rattle.executor_history.specs.Replies.{reply_in, reply_of}
+use Rattle.run_queues.specs.Order.{QueuesView, HasRoom}
 use Rattle.executor_core.specs.declared.known_row.KnownRow.{KnownRow}
 use Rattle.executor_core.specs.declared.change.Change.{Change}
 use Rattle.executor_core.specs.declared.change.Change.TheVariants as change
@@ -19,15 +18,15 @@ use Rattle.executor_core.specs.Rows.{LineRoom}
 
 -- how much more goes into each list without memory
 pub record Room : Type 0 where
-  pub queued : ℕ
   pub on_runners : ℕ
   pub held : ℕ
   pub known : ℕ
   pub callbacks : ℕ
 
--- an executor: its parts, the rows of the known logs as they are kept, and its room
+-- an executor: its parts, the queues and the rows of the known logs as they are kept, and its room
 pub record Whole : Type 0 where
   pub parts : Parts
+  pub queues : QueuesView
   pub rows : List KnownRow
   pub room : Room
 
@@ -93,15 +92,25 @@ parts_after p (change.Fail saved) = record p {
 }
 parts_after p change.Reload = record p { waiting = p.waiting ++ p.spooled; spooled = [] }
 
+-- a new run has a later number than those before it, and its id is not held
+abbrev pub Follows : Parts → Change → Type 0
+Follows p (change.Queue q cover items) = (p.runs < q.run.number) × (is_among q.run.log p.held ≡ false)
+Follows p _ = Unit {0}
+
 -- there is room for all that a change adds
-abbrev pub CanCommit : Whole → Change → Type 0
-CanCommit w (change.Queue q cover items) = (1 ≤ w.room.queued) × (1 ≤ w.room.held) × (1 ≤ w.room.known) × (length items ≤ w.room.callbacks)
-CanCommit w (change.Kill job items) = length items ≤ w.room.callbacks
-CanCommit w (change.Poll runner at) = 1 ≤ w.room.on_runners
-CanCommit w (change.Finish runner items) = length items ≤ w.room.callbacks
-CanCommit w (change.Expire at items) = length items ≤ w.room.callbacks
-CanCommit w (change.Line log text) = LineRoom log w.rows
-CanCommit w _ = Unit {0}
+abbrev pub HasRoomFor : Whole → Change → Type 0
+HasRoomFor w (change.Queue q cover items) = HasRoom q.job w.queues × (1 ≤ w.room.held) × (1 ≤ w.room.known) × (length items ≤ w.room.callbacks)
+HasRoomFor w (change.Kill job items) = length items ≤ w.room.callbacks
+HasRoomFor w (change.Poll runner at) = 1 ≤ w.room.on_runners
+HasRoomFor w (change.Finish runner items) = length items ≤ w.room.callbacks
+HasRoomFor w (change.Expire at items) = length items ≤ w.room.callbacks
+HasRoomFor w (change.Line log text) = LineRoom log w.rows
+HasRoomFor w _ = Unit {0}
+
+-- a change can be made now
+pub record CanCommit (w : Whole) (c : Change) : Type 0 where
+  pub follows : Follows w.parts c
+  pub room : HasRoomFor w c
 
 -- an executor stands for a history where its parts are those that the history leaves
 abbrev pub StandsFor : Parts → History → Type 0

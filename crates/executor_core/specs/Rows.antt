@@ -1,5 +1,6 @@
 -- What the known logs are seen as.
-use Rattle.std.specs.Prelude.{◌<◌, ℕ, ◌==◌, MatchBool, List, [], ◌∷◌, map, vec_len, vec_capacity}
+use Rattle.std.specs.Prelude.{◌<◌, ℕ, ◌==◌, MatchBool, List, [], ◌∷◌, vec_len, vec_capacity}
+use Rattle.run_queues.specs.Rising.{RisesBy}
 use Rattle.executor_core.specs.declared.known_row.KnownRow.{KnownRow}
 use Rattle.executor_history.specs.Past.{Known}
 
@@ -16,3 +17,7 @@ LineRoom log (row ∷ rows) = MatchBool (log == row.log) (vec_len row.lines < ve
 pub record RowsView : Type 0 where
   pub rows : List KnownRow
   pub room : ℕ
+
+-- known logs in rising order of their ids, each once
+abbrev pub IsRising : List Known → Type 0
+IsRising known = RisesBy (λ (k : Known). k.log) 0 known

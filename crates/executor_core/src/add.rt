@@ -1,6 +1,7 @@
 //! Items that go to the results, and ids that are released.
 ghost use Rattle.std.specs.Prelude.{◌≡◌, ◌+◌, ◌≤◌, ◌++◌, [], ◌∷◌, length, drop, take, IfOk, vec_len};
 ghost use Rattle.std.specs.VecDeque.{deque_len};
+ghost use Rattle.callback_spool.specs.Different.{HaveDifferentLogs};
 ghost use Rattle.executor_history.specs.Past.{released, put_ids, taken_batch, left_waiting};
 
 use super::ids::Ids;
@@ -44,6 +45,8 @@ pub fn release_all(held: &mut Ids, items: &VecDeque<CallbackItem>)
 
 /// Holds the ids of these items.
 pub fn hold_all(held: &mut Ids, items: &[CallbackItem]) -> Result<(), NoMemory>
+    requires different { HaveDifferentLogs items.now }
+    requires none { held.old.ids ≡ [] }
     ensures { IfOk result (λ _. held.new.ids ≡ put_ids items.now held.old.ids) }
 {
     for item in items {

@@ -1,12 +1,13 @@
 //! An executor, one event at a time: prepare takes all the memory, commit makes the change.
 ghost use Rattle.std.specs.Prelude.{◌≡◌, ◌+◌, ◌<◌, ◌≤◌, length, IfOk, OnOk, OnErr, false, ◌^◌, vec_len, vec_capacity};
+ghost use Rattle.callback_spool.specs.Different.{HaveDifferentLogs};
 ghost use Rattle.executor_history.specs.History.{Opening, is_refusal};
 ghost use Rattle.executor_history.specs.Past.{parts_of};
 ghost use Rattle.executor_history.specs.Replies.{reply_in};
 ghost use Rattle.executor_history.specs.Runs.{is_cover, queued_run, is_ready, ready_front, run_on, put_working, working_run};
 ghost use Rattle.executor_history.specs.Past.{covered_items};
 ghost use Rattle.job_lane.specs.Runs.{without_first};
-ghost use Rattle.executor_core.specs.Parts.{line_change, change_by, change_of, parts_after, CanCommit, StandsFor, Answers};
+ghost use Rattle.executor_core.specs.Parts.{line_change, change_by, change_of, parts_after, HasRoomFor, CanCommit, StandsFor, Answers};
 
 use super::add::{add_all, hold_all, release_all, take_out};
 use super::change::{Change, PreparedRun};
@@ -17,10 +18,7 @@ use super::replies::{
     batch_answer, covers, finish_answer, idle_answer, kept_answer, line_answer, lines_answer,
     poll_answer, run_answer, take_answer,
 };
-use super::runs::{
-    drop_queued, end_runs, enqueue, expire_runs, late_len, leave_runner, queue_len, take_front,
-    working_on,
-};
+use super::runs::{end_runs, enqueue, expire_runs, late_len, leave_runner, working_on};
 use callback_spool::Callbacks;
 use executor_history::{Queued, Working};
 use job_lane::{QueuedRun, RunnerRun};
@@ -28,6 +26,7 @@ use job_values::{
     CallbackItem, ExecutorEvent, ExecutorReply, HandlerName, JobId, LogId, LogLine, LogMoment,
     Moment, NoMemory, Run, RunnerNo, Seq,
 };
+use run_queues::Queues;
 use std::alloc::Global;
 use std::marker::Model;
 
@@ -36,8 +35,7 @@ use std::marker::Model;
 pub struct Executor {
     alloc: Global,
     handlers: Seq<HandlerName>,
-    runs: u64,
-    queued: Vec<Queued>,
+    queues: Queues,
     on_runners: Vec<Working>,
     callbacks: Callbacks,
     held: Ids,
@@ -54,8 +52,8 @@ impl Model for Executor {
     ghost view = { λ e. record {
       parts = record {
         handlers = e.handlers;
-        runs = e.runs;
-        queued = e.queued.items;
+        runs = e.queues.last;
+        queued = e.queues.runs;
         on_runners = e.on_runners.items;
         waiting = e.callbacks.waiting;
         batch = e.callbacks.batch;
@@ -63,9 +61,9 @@ impl Model for Executor {
         held = e.held.ids;
         known = map known_in e.known.rows;
       };
+      queues = e.queues;
       rows = e.known.rows;
       room = record {
-        queued = vec_capacity e.queued - vec_len e.queued;
         on_runners = vec_capacity e.on_runners - vec_len e.on_runners;
         held = e.held.room;
         known = e.known.room;
@@ -97,7 +95,6 @@ fn queued_of(alloc: Global, run: &Run, number: u64) -> Result<Queued, NoMemory>
 #[derive(Clone, Copy)]
 struct Told {
     job: JobId,
-    number: u64,
     log: LogId,
     log_moment: LogMoment,
 }
@@ -105,27 +102,25 @@ struct Told {
 /// The same of a queued run.
 fn told_of(new: &Queued) -> Told
     ensures job { result.job ≡ new.now.job }
-    ensures number { result.number ≡ new.now.run.number }
     ensures log { result.log ≡ new.now.run.log }
     ensures log_moment { result.log_moment ≡ new.now.run.log_moment }
 {
     Told {
         job: new.job,
-        number: new.run.number,
         log: new.run.log,
         log_moment: new.run.log_moment,
     }
 }
 
 /// The change of an accepted Run.
-fn queue_change(alloc: Global, run: &Run, runs: u64, queued: &[Queued]) -> Result<Change, NoMemory>
+fn queue_change(alloc: Global, run: &Run, runs: u64, queues: &Queues) -> Result<Change, NoMemory>
     requires { runs + 1 < 2 ^ 64 }
-    ensures { IfOk result (λ c. c ≡ Change.Queue (record { job = run.now.job; run = queued_run (runs + 1) run.now }) (is_cover run.now) (covered_items run.now queued.now)) }
+    ensures { IfOk result (λ c. c ≡ Change.Queue (record { job = run.now.job; run = queued_run (runs + 1) run.now }) (is_cover run.now) (covered_items run.now queues.now.runs)) }
 {
     let new = queued_of(alloc, run, runs + 1)?;
     let cover = covers(run);
     let items = if cover {
-        all_killed(alloc, run.job, queued)?
+        all_killed(alloc, run.job, queues)?
     } else {
         Seq::new(alloc)
     };
@@ -167,24 +162,26 @@ fn started(runner: RunnerNo, at: Moment, queued: &Queued) -> Working
 }
 
 /// Gives the ready front to a runner.
-fn give(queued: &mut Vec<Queued>, on_runners: &mut Vec<Working>, runner: RunnerNo, at: Moment)
+fn give(queues: &mut Queues, on_runners: &mut Vec<Working>, runner: RunnerNo, at: Moment)
     requires { vec_len on_runners.old < vec_capacity on_runners.old }
-    ensures queued { queued.new.items ≡ without_first (is_ready on_runners.old.items) queued.old.items }
-    ensures on_runners { on_runners.new.items ≡ put_working runner at (ready_front queued.old.items on_runners.old.items) on_runners.old.items }
+    ensures runs { queues.new.runs ≡ without_first (is_ready on_runners.old.items) queues.old.runs }
+    ensures last { queues.new.last ≡ queues.old.last }
+    ensures on_runners { on_runners.new.items ≡ put_working runner at (ready_front queues.old.runs on_runners.old.items) on_runners.old.items }
 {
-    match take_front(queued, on_runners.as_slice()) {
+    match queues.take_front(on_runners.as_slice()) {
         None => {}
         Some(front) => on_runners.push_reserved(started(runner, at, &front)),
     }
 }
 
 impl Executor {
-    /// An executor with these handlers, whose kept items wait and whose ids are held. The kept items have different logs.
+    /// An executor with these handlers, whose kept items wait and whose ids are held.
     pub fn new(
         alloc: Global,
         handlers: Seq<HandlerName>,
         kept: Seq<CallbackItem>,
     ) -> Result<Executor, NoMemory>
+        requires { HaveDifferentLogs kept }
         ensures { IfOk result (λ executor. StandsFor executor.parts (Opening handlers kept)) }
     {
         let mut held = Ids::new(alloc);
@@ -195,8 +192,7 @@ impl Executor {
         Ok(Executor {
             alloc,
             handlers,
-            runs: 0,
-            queued: Vec::new(alloc),
+            queues: Queues::new(alloc),
             on_runners: Vec::new(alloc),
             callbacks,
             held,
@@ -208,21 +204,21 @@ impl Executor {
     fn reply_to(&self, event: &ExecutorEvent) -> Result<ExecutorReply, NoMemory>
         ensures { IfOk result (λ r. r ≡ reply_in self.now.parts event.now) }
     {
-        let queued = self.queued.as_slice();
+        let queues = &self.queues;
         let on_runners = self.on_runners.as_slice();
         match event {
             ExecutorEvent::Run(run, _) => Ok(run_answer(
                 run,
                 self.handlers.as_slice(),
-                self.runs,
-                queued,
+                queues.last(),
+                queues,
                 on_runners,
                 &self.held,
             )),
             ExecutorEvent::Beat => Ok(ExecutorReply::Done),
-            ExecutorEvent::IdleBeat(job) => Ok(idle_answer(*job, queued, on_runners)),
-            ExecutorEvent::Kill(job) => Ok(ExecutorReply::Killed(queue_len(*job, queued))),
-            ExecutorEvent::Poll(runner, _) => poll_answer(self.alloc, *runner, queued, on_runners),
+            ExecutorEvent::IdleBeat(job) => Ok(idle_answer(*job, queues, on_runners)),
+            ExecutorEvent::Kill(job) => Ok(ExecutorReply::Killed(queues.len_of(*job))),
+            ExecutorEvent::Poll(runner, _) => poll_answer(self.alloc, *runner, queues, on_runners),
             ExecutorEvent::Finish(runner, _, code, _) => {
                 Ok(finish_answer(*runner, *code, on_runners))
             }
@@ -231,7 +227,7 @@ impl Executor {
                 Ok(line_answer(*runner, on_runners, &self.known))
             }
             ExecutorEvent::ReadLines(log, first) => {
-                lines_answer(self.alloc, *log, *first, queued, on_runners, &self.known)
+                lines_answer(self.alloc, *log, *first, queues, on_runners, &self.known)
             }
             ExecutorEvent::Trim(at) => Ok(ExecutorReply::Trimmed(
                 self.known.trimmed_len(*at, &self.held, on_runners),
@@ -251,12 +247,12 @@ impl Executor {
         requires { is_refusal (reply_in self.now.parts event.now) ≡ false }
         ensures { IfOk result (λ c. c ≡ change_by self.now.parts event.now) }
     {
-        let queued = self.queued.as_slice();
+        let queues = &self.queues;
         let on_runners = self.on_runners.as_slice();
         match event {
-            ExecutorEvent::Run(run, _) => queue_change(self.alloc, run, self.runs, queued),
+            ExecutorEvent::Run(run, _) => queue_change(self.alloc, run, queues.last(), queues),
             ExecutorEvent::Kill(job) => {
-                Ok(Change::Kill(*job, all_killed(self.alloc, *job, queued)?))
+                Ok(Change::Kill(*job, all_killed(self.alloc, *job, queues)?))
             }
             ExecutorEvent::Poll(runner, at) => Ok(Change::Poll(*runner, *at)),
             ExecutorEvent::Finish(runner, _, code, text) => Ok(Change::Finish(
@@ -295,11 +291,11 @@ impl Executor {
     /// Makes room for all that a change adds.
     fn make_room(&mut self, change: &Change) -> Result<(), NoMemory>
         ensures parts { self.new.parts ≡ self.old.parts }
-        ensures room { OnOk result (CanCommit self.new change.now) }
+        ensures room { OnOk result (HasRoomFor self.new change.now) }
     {
         match change {
-            Change::Queue(_, _, items) => {
-                self.queued.reserve(1).map_err(|_| NoMemory)?;
+            Change::Queue(new, _, items) => {
+                self.queues.reserve(self.alloc, new.job)?;
                 self.held.reserve()?;
                 self.known.reserve()?;
                 self.callbacks.reserve(items.len())
@@ -326,11 +322,10 @@ impl Executor {
         let told = told_of(&new);
         let alloc = self.alloc;
         let items = items.into_vec();
-        enqueue(new, cover, &mut self.queued);
+        enqueue(new, cover, &mut self.queues);
         if cover {
             end_runs(&mut self.on_runners, told.job);
         }
-        self.runs = told.number;
         self.held.put(told.log);
         self.known.put(alloc, told.log, told.log_moment);
         add_all(&mut self.callbacks, items);
@@ -346,12 +341,12 @@ impl Executor {
             Change::Queue(new, cover, items) => self.queue(new, cover, items),
             Change::Kill(job, items) => {
                 let items = items.into_vec();
-                drop_queued(&mut self.queued, job);
+                self.queues.drop_job(job);
                 end_runs(&mut self.on_runners, job);
                 add_all(&mut self.callbacks, items);
             }
             Change::Poll(runner, at) => {
-                give(&mut self.queued, &mut self.on_runners, runner, at);
+                give(&mut self.queues, &mut self.on_runners, runner, at);
             }
             Change::Finish(runner, items) => {
                 let items = items.into_vec();

@@ -1,9 +1,10 @@
 //! A set of log ids, in rising order.
-ghost use Rattle.std.specs.Prelude.{◌≡◌, ◌+◌, ◌<◌, ◌≤◌, ◌==◌, not, nat_lt, [], length, filter, position, OnOk, MatchResult, vec_len, vec_capacity};
+ghost use Rattle.std.specs.Prelude.{◌≡◌, ◌+◌, ◌<◌, ◌≤◌, ◌==◌, not, false, [], length, filter, OnOk};
 ghost use Rattle.executor_history.specs.Past.{put_id, is_among};
-ghost use Rattle.executor_core.specs.Ids.{IsRising, IsAt, GoesAt};
+ghost use Rattle.run_queues.specs.Rising.{RisesBy};
 
 use job_values::{LogId, NoMemory};
+use run_queues::{place_from, put_key, take_key};
 use std::alloc::Global;
 use std::marker::Model;
 
@@ -21,60 +22,18 @@ impl Model for Ids {
 
     ghost view = { λ s. record { ids = s.ids.items; room = vec_capacity s.ids - vec_len s.ids } };
 
-    ghost use Rattle.executor_core.specs.Ids.{IsRising};
+    ghost use Rattle.run_queues.specs.Rising.{RisesBy};
 
-    ghost invariant = { λ s. IsRising s.ids.items };
+    ghost invariant = { λ s. RisesBy (λ id. id) 0 s.ids.items };
 }
 
-/// The place of the first id above this one.
-fn place_above(ids: &[LogId], id: LogId) -> Option<usize>
-    ensures { result ≡ position (nat_lt id) ids.now }
-{
-    ids.iter().position(|other| id.get() < other.get())
-}
-
-/// Where an id is, or where it goes, found by halves.
-fn search(ids: &[LogId], id: LogId) -> Result<usize, usize>
-    requires { IsRising ids.now }
-    ensures { MatchResult result (IsAt id ids.now) (GoesAt id ids.now) }
-{
-    let number = id.get();
-    ids.binary_search_by_key(&number, |x| x.get())
-}
-
-/// Whether an id is among these.
+/// Whether an id is among these, found by halves.
 fn is_there(ids: &[LogId], id: LogId) -> bool
-    requires { IsRising ids.now }
+    requires { RisesBy (λ x. x) 0 ids.now }
     ensures { result ≡ is_among id ids.now }
 {
-    match search(ids, id) {
-        Ok(_) => true,
-        Err(_) => false,
-    }
-}
-
-/// The ids without this one.
-fn without(ids: &mut Vec<LogId>, id: LogId)
-    requires { IsRising ids.old.items }
-    ensures items { ids.new.items ≡ filter (λ x. not (id == x)) ids.old.items }
-    ensures rising { IsRising ids.new.items }
-{
-    ids.retain(|x| !(id == *x));
-}
-
-/// The ids with this one, which there is room for.
-fn with(ids: &mut Vec<LogId>, id: LogId)
-    requires room { vec_len ids.old < vec_capacity ids.old }
-    requires rising { IsRising ids.old.items }
-    ensures items { ids.new.items ≡ put_id id ids.old.items }
-    ensures rising { IsRising ids.new.items }
-{
-    match place_above(ids.as_slice(), id) {
-        None => ids.push_reserved(id),
-        Some(place) => {
-            let _inserted = ids.insert(place, id);
-        }
-    }
+    let place = place_from(ids, id.get());
+    place < ids.len() && ids[place] == id
 }
 
 impl Ids {
@@ -110,18 +69,20 @@ impl Ids {
         Ok(())
     }
 
-    /// Puts an id to the others. It takes no memory.
+    /// Puts a new id to the others. It takes no memory.
     pub fn put(&mut self, id: LogId)
-        requires { 1 ≤ self.old.room }
+        requires room { 1 ≤ self.old.room }
+        requires new { is_among id self.old.ids ≡ false }
         ensures { self.new.ids ≡ put_id id self.old.ids }
     {
-        with(&mut self.ids, id);
+        prove!(id.get() > 0);
+        put_key(&mut self.ids, id);
     }
 
     /// Takes an id away, if it is there. It takes no memory.
     pub fn release(&mut self, id: LogId)
         ensures { self.new.ids ≡ filter (λ x. not (id == x)) self.old.ids }
     {
-        without(&mut self.ids, id);
+        take_key(&mut self.ids, id.get());
     }
 }

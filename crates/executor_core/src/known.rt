@@ -2,13 +2,14 @@
 ghost use Rattle.std.specs.Prelude.{◌≡◌, ◌+◌, ◌<◌, ◌≤◌, ◌==◌, not, nat_le, [], map, filter, find, count_by, position, OnOk, MatchOption, None, Some, vec_len, vec_capacity};
 ghost use Rattle.std.specs.Option.{option_copied};
 ghost use Rattle.executor_history.specs.Past.{known_run, add_line, is_trimmed, is_among, is_on_runner, known_of};
-ghost use Rattle.executor_core.specs.Rows.{known_in, LineRoom};
+ghost use Rattle.executor_core.specs.Rows.{known_in, LineRoom, IsRising};
 
 use super::ids::Ids;
 use super::known_row::KnownRow;
 use super::runs::on_runner;
 use executor_history::Working;
 use job_values::{LogId, LogLine, LogMoment, Moment, NoMemory};
+use run_queues::place_from;
 use std::alloc::Global;
 use std::marker::Model;
 
@@ -25,27 +26,48 @@ impl Model for KnownLogs {
     ghost Value = { RowsView };
 
     ghost view = { λ k. record { rows = k.rows.items; room = vec_capacity k.rows - vec_len k.rows } };
+
+    ghost use Rattle.std.specs.Prelude.{map};
+    ghost use Rattle.executor_core.specs.Rows.{known_in, IsRising};
+
+    ghost invariant = { λ k. IsRising (map known_in k.rows.items) };
 }
 
-/// The place of the row of a log.
+/// The place of the row of a log, found by halves.
 fn place_of(rows: &[KnownRow], log: LogId) -> Option<usize>
+    requires { IsRising (map known_in rows.now) }
     ensures { result ≡ position (λ row. log == row.log) rows.now }
 {
-    rows.iter().position(|row| log == row.log)
+    let place = place_from(rows, log.get());
+    if place < rows.len() && rows[place].log == log {
+        Some(place)
+    } else {
+        None
+    }
 }
 
 /// The row of a log.
 fn row_of(rows: &[KnownRow], log: LogId) -> Option<&KnownRow>
+    requires { IsRising (map known_in rows.now) }
     ensures { option_copied result ≡ find (λ row. log == row.log) rows.now }
 {
-    rows.iter().find(|row| log == row.log)
+    match place_of(rows, log) {
+        None => None,
+        Some(place) => Some(&rows[place]),
+    }
 }
 
-/// The place of the first row whose id is not below this one.
-fn place_from(rows: &[KnownRow], log: LogId) -> Option<usize>
+/// The place of the first row whose id is not below this one, found by halves.
+fn place_at(rows: &[KnownRow], log: LogId) -> Option<usize>
+    requires { IsRising (map known_in rows.now) }
     ensures { result ≡ position (λ row. nat_le log row.log) rows.now }
 {
-    rows.iter().position(|row| log.get() <= row.log.get())
+    let place = place_from(rows, log.get());
+    if place < rows.len() {
+        Some(place)
+    } else {
+        None
+    }
 }
 
 /// Makes room for one more line in a row.
@@ -60,6 +82,7 @@ fn reserve_row(row: &mut KnownRow) -> Result<(), NoMemory>
 
 /// Makes room for one more line in the row of a log.
 fn reserve_at(rows: &mut Vec<KnownRow>, log: LogId) -> Result<(), NoMemory>
+    requires { IsRising (map known_in rows.old.items) }
     ensures rows { map known_in rows.new.items ≡ map known_in rows.old.items }
     ensures room { OnOk result (LineRoom log rows.new.items) }
     ensures capacity { vec_capacity rows.new ≡ vec_capacity rows.old }
@@ -75,7 +98,8 @@ fn reserve_at(rows: &mut Vec<KnownRow>, log: LogId) -> Result<(), NoMemory>
 
 /// Puts a line behind the others of a log, whose row has room for it.
 fn push_line(rows: &mut Vec<KnownRow>, log: LogId, line: LogLine)
-    requires { LineRoom log rows.old.items }
+    requires rising { IsRising (map known_in rows.old.items) }
+    requires room { LineRoom log rows.old.items }
     ensures { map known_in rows.new.items ≡ add_line log line (map known_in rows.old.items) }
 {
     match place_of(rows.as_slice(), log) {
@@ -89,10 +113,11 @@ fn push_line(rows: &mut Vec<KnownRow>, log: LogId, line: LogLine)
 
 /// Makes a log known by a run of it. There is room for one more row.
 fn put_run(alloc: Global, rows: &mut Vec<KnownRow>, log: LogId, moment: LogMoment)
-    requires { vec_len rows.old < vec_capacity rows.old }
+    requires rising { IsRising (map known_in rows.old.items) }
+    requires room { vec_len rows.old < vec_capacity rows.old }
     ensures { map known_in rows.new.items ≡ known_run log moment (map known_in rows.old.items) }
 {
-    match place_from(rows.as_slice(), log) {
+    match place_at(rows.as_slice(), log) {
         None => rows.push_reserved(KnownRow {
             log,
             moment,
@@ -178,6 +203,7 @@ impl KnownLogs {
         requires { 1 ≤ self.old.room }
         ensures { map known_in self.new.rows ≡ known_run log moment (map known_in self.old.rows) }
     {
+        prove!(log.get() > 0);
         put_run(alloc, &mut self.rows, log, moment);
     }
 

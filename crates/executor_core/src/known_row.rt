@@ -1,6 +1,8 @@
 //! What is kept of a log.
+ghost use Rattle.std.specs.Prelude.{◌≡◌};
 
 use job_values::{LogId, LogLine, LogMoment};
+use run_queues::Keyed;
 
 /// A log whose run was accepted, since its lines were last trimmed.
 #[derive(Debug, Drop)]
@@ -10,4 +12,12 @@ pub struct KnownRow {
     pub moment: LogMoment,
     /// From number 1 on.
     pub lines: Vec<LogLine>,
+}
+
+impl Keyed for KnownRow {
+    ghost key_of = { λ row. row.log };
+
+    fn key(&self) -> u64 {
+        self.log.get()
+    }
 }

@@ -14,7 +14,7 @@ use super::add::copy_first;
 use super::ids::Ids;
 use super::items::finish_code;
 use super::known::KnownLogs;
-use super::runs::{busy, ended, front, queue_len, working_on};
+use super::runs::{busy, ended, working_on};
 use callback_spool::Callbacks;
 use callback_spool::batch::fitting_items;
 use executor_history::{Queued, Working};
@@ -22,6 +22,7 @@ use job_values::{
     ExecutorRefusal, ExecutorReply, FinishCode, HandlerName, JobId, LineNo, LogId, LogLine,
     NoMemory, PolledRun, ReadLines, Run, RunnerNo, Seq,
 };
+use run_queues::Queues;
 use std::alloc::Global;
 
 /// The most ids that are held at once.
@@ -72,11 +73,11 @@ pub fn run_answer(
     run: &Run,
     handlers: &[HandlerName],
     runs: u64,
-    queued: &[Queued],
+    queues: &Queues,
     on_runners: &[Working],
     held: &Ids,
 ) -> ExecutorReply
-    ensures { result ≡ run_reply run.now handlers.now runs queued.now on_runners.now held.now.ids }
+    ensures { result ≡ run_reply run.now handlers.now runs queues.now.runs on_runners.now held.now.ids }
 {
     if held.contains(run.log) {
         return ExecutorReply::Refused(ExecutorRefusal::Held(run.log));
@@ -87,23 +88,23 @@ pub fn run_answer(
     if !has_handler(run, handlers) {
         return ExecutorReply::Refused(ExecutorRefusal::NoHandler);
     }
-    if discards(run) && busy(run.job, queued, on_runners) {
+    if discards(run) && busy(run.job, queues, on_runners) {
         return ExecutorReply::Refused(ExecutorRefusal::Discarded);
     }
     if full(runs, held) {
         return ExecutorReply::Refused(ExecutorRefusal::HeldFull);
     }
     if covers(run) {
-        return ExecutorReply::Queued(queue_len(run.job, queued));
+        return ExecutorReply::Queued(queues.len_of(run.job));
     }
     ExecutorReply::Queued(0)
 }
 
 /// The reply of an IdleBeat.
-pub fn idle_answer(job: JobId, queued: &[Queued], on_runners: &[Working]) -> ExecutorReply
-    ensures { result ≡ idle_reply (is_busy job queued.now on_runners.now) }
+pub fn idle_answer(job: JobId, queues: &Queues, on_runners: &[Working]) -> ExecutorReply
+    ensures { result ≡ idle_reply (is_busy job queues.now.runs on_runners.now) }
 {
-    if busy(job, queued, on_runners) {
+    if busy(job, queues, on_runners) {
         ExecutorReply::Refused(ExecutorRefusal::Running)
     } else {
         ExecutorReply::Done
@@ -127,12 +128,12 @@ fn polled_run(alloc: Global, queued: &Queued) -> Result<PolledRun, NoMemory>
 /// The reply of a Poll by a free runner.
 fn given_answer(
     alloc: Global,
-    queued: &[Queued],
+    queues: &Queues,
     on_runners: &[Working],
 ) -> Result<ExecutorReply, NoMemory>
-    ensures { IfOk result (λ r. r ≡ given_reply (ready_front queued.now on_runners.now)) }
+    ensures { IfOk result (λ r. r ≡ given_reply (ready_front queues.now.runs on_runners.now)) }
 {
-    match front(queued, on_runners) {
+    match queues.front(on_runners) {
         None => Ok(ExecutorReply::Refused(ExecutorRefusal::Nothing)),
         Some(run) => Ok(ExecutorReply::Runs(polled_run(alloc, run)?)),
     }
@@ -142,13 +143,13 @@ fn given_answer(
 pub fn poll_answer(
     alloc: Global,
     runner: RunnerNo,
-    queued: &[Queued],
+    queues: &Queues,
     on_runners: &[Working],
 ) -> Result<ExecutorReply, NoMemory>
-    ensures { IfOk result (λ r. r ≡ poll_reply (run_on runner on_runners.now) (ready_front queued.now on_runners.now)) }
+    ensures { IfOk result (λ r. r ≡ poll_reply (run_on runner on_runners.now) (ready_front queues.now.runs on_runners.now)) }
 {
     match working_on(runner, on_runners) {
-        None => given_answer(alloc, queued, on_runners),
+        None => given_answer(alloc, queues, on_runners),
         Some(working) => Ok(ExecutorReply::Refused(ExecutorRefusal::RunnerBusy(working.run.log))),
     }
 }
@@ -273,11 +274,11 @@ pub fn lines_answer(
     alloc: Global,
     log: LogId,
     first: LineNo,
-    queued: &[Queued],
+    queues: &Queues,
     on_runners: &[Working],
     known: &KnownLogs,
 ) -> Result<ExecutorReply, NoMemory>
-    ensures { IfOk result (λ r. r ≡ lines_reply (max first 1) (is_ended log queued.now on_runners.now) (known_of log (map known_in known.now.rows))) }
+    ensures { IfOk result (λ r. r ≡ lines_reply (max first 1) (is_ended log queues.now.runs on_runners.now) (known_of log (map known_in known.now.rows))) }
 {
     let from = u64::from(first.get()).max(1);
     match known.find(log) {
@@ -287,7 +288,7 @@ pub fn lines_answer(
             Ok(ExecutorReply::Lines(ReadLines {
                 from,
                 to: from - 1 + lines.len() as u64,
-                is_end: ended(log, queued, on_runners),
+                is_end: ended(log, queues, on_runners),
                 lines,
             }))
         }

@@ -2,14 +2,23 @@
 //! adapters to the real thing. Every object counts its faults, and a call fails only where that count rose.
 #![tactic(auto)]
 
+mod dialed;
+mod dialer;
 mod failed;
+mod kept_dials;
+mod link;
 mod sink;
 mod source;
 mod streams;
+mod tcp;
 #[cfg(test)]
 mod tests;
 
+pub use dialed::{Dialed, Shown};
+pub use dialer::{BytesDialer, Dialer, MemoryDialer};
 pub use failed::Failed;
+pub use link::{BytesLink, Link, MemoryLink, send};
 pub use sink::{BytesSink, MemorySink, Sink, write_whole};
 pub use source::{BytesSource, MemorySource, Source};
 pub use streams::{StreamSink, StreamSource};
+pub use tcp::{TcpDialer, TcpLink};

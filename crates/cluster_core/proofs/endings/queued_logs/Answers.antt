@@ -1,4 +1,4 @@
-use Rattle.std.proofs.Common.{◌≡◌, ℕ, ◌+◌, ◌*◌, ◌≤◌, length, map, refl, ap, sym, ◌∙◌, arith}
+use Rattle.std.proofs.Common.{◌≡◌, ℕ, ◌+◌, ◌≤◌, length, map, refl, ap, sym, ◌∙◌, arith}
 use Rattle.trigger_pool.specs.Pool.{PoolState, Queues}
 use Rattle.cluster_core.specs.Kept.{pools_at}
 use Rattle.cluster_core.specs.Endings.{queued_of}

@@ -1,6 +1,6 @@
-use Rattle.std.proofs.Common.{◌≡◌, ◌<◌, ◌+◌, ◌∙◌, ap, length, subst, sym, refl, arith}
+use Rattle.std.proofs.Common.{◌≡◌, ◌∙◌, ap, subst, refl, arith}
 use Rattle.job_records.specs.declared.last_ids.LastIds.{LastIds}
-use Rattle.cluster_history.specs.Firings.{Shot, shots_with, shots_by}
+use Rattle.cluster_history.specs.Firings.{shots_with, shots_by}
 use Rattle.cluster_core.specs.declared.firing.Fired.{Fired}
 use Rattle.cluster_core.specs.Firing.{Fires}
 use Rattle.cluster_core.specs.Openings.{OpensBehind, told_of}

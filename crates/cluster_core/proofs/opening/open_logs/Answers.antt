@@ -1,7 +1,7 @@
 use Rattle.std.proofs.Common.{◌≡◌, ◌∙◌, ℕ, ◌∷◌, [], List, ap, rules, subst, sym, arith}
 use Rattle.std.proofs.lemmas.List.FromFn.{length-map-range_with_len}
 use Rattle.job_values.specs.declared.job.Opened.{Opened}
-use Rattle.cluster_history.specs.Firings.{Shot, shot_for}
+use Rattle.cluster_history.specs.Firings.{shot_for}
 use Rattle.cluster_core.specs.Openings.{OpensBehind, told_of}
 use Rattle.cluster_core.proofs.OpeningLemmas.{opens-up_none, opens-up_more, shots_up, OpensUp}
 use Rattle.cluster_core.proofs.opening.open_logs.Goals as goal

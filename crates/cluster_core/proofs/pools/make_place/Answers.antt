@@ -1,4 +1,4 @@
-use Rattle.std.proofs.Common.{◌≡◌, ◌≤◌, ℕ, OnOk, subst, sym, arith}
+use Rattle.std.proofs.Common.{◌≤◌, ℕ, OnOk, subst, sym, arith}
 use Rattle.cluster_core.proofs.KeptLemmas.{pools-room, pools-kept}
 use Rattle.cluster_core.proofs.pools.make_place.Goals as goal
 

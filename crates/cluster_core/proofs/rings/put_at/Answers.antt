@@ -1,7 +1,5 @@
-use Rattle.std.proofs.Common.{◌≡◌, List, Option, sym, map, subst, arith}
-use Rattle.time_ring.specs.declared.ticket.Ticket.{Ticket}
-use Rattle.time_ring.specs.Ring.{Ring, with_ticket}
-use Rattle.cluster_core.specs.Commits.{rings_with}
+use Rattle.std.proofs.Common.{arith}
+use Rattle.time_ring.specs.Ring.{with_ticket}
 use Rattle.cluster_core.proofs.KeptLemmas.{slots-changed}
 use Rattle.cluster_core.proofs.rings.put_at.Goals as goal
 

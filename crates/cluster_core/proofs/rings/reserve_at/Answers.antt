@@ -1,5 +1,4 @@
-use Rattle.std.proofs.Common.{◌≡◌, ◌<◌, ◌≤◌, ℕ, suc, List, OnOk, Option, subst, sym, arith}
-use Rattle.time_ring.specs.declared.ticket.Ticket.{Ticket}
+use Rattle.std.proofs.Common.{ℕ, List, OnOk, subst, sym, arith}
 use Rattle.cluster_core.specs.Commits.{HasRoomToPut}
 use Rattle.cluster_core.proofs.KeptLemmas.{rings-room, slots-kept}
 use Rattle.cluster_core.proofs.rings.reserve_at.Goals as goal

@@ -1,4 +1,4 @@
-use Rattle.std.proofs.Common.{◌≡◌, List, [], ◌∷◌, take, drop, Result, Ok, Err, OnOk, OnErr, refl, ap, rules}
+use Rattle.std.proofs.Common.{◌≡◌, List, [], ◌∷◌, take, drop, Result, OnOk, OnErr, refl}
 use Rattle.job_values.specs.declared.run.CallbackItem.{CallbackItem}
 use Rattle.callback_spool.specs.declared.callbacks.CallbackRefusal.{CallbackRefusal}
 use Rattle.callback_spool.specs.Batches.{batch_len}

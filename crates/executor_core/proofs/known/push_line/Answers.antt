@@ -1,15 +1,13 @@
-use Rattle.std.proofs.Common.{◌≡◌, ℕ, ◌<◌, ◌≤◌, ◌==◌, ◌++◌, [], ◌∷◌, true, false, nat_le, List, position, None, Some, length, get_or, map, sym, ap, ◌∙◌, arith, rules}
-use Rattle.std.proofs.lemmas.List.{get_or_default}
+use Rattle.std.proofs.Common.{◌≡◌, ℕ, ◌==◌, ◌++◌, [], ◌∷◌, List, position, None, Some, sym, ap, ◌∙◌}
 use Rattle.executor_history.specs.Past.{Known}
 use Rattle.executor_core.specs.declared.known_row.KnownRow.{KnownRow}
-use Rattle.executor_core.specs.Rows.{known_in}
-use Rattle.executor_core.proofs.KnownRows.{room_none, line_none, room_at, had_room, line_at, run_end_put, run_again, run_new, same_at, filter-map}
+use Rattle.executor_core.proofs.KnownRows.{line_none, had_room, line_at}
 use Rattle.executor_core.proofs.known.push_line.Goals as goal
 
 pub push_reserved-requires : goal.push_reserved-requires
 push_reserved-requires c =
     let e : position (λ (r : KnownRow). c.args.log == r.log) c.args.rows.now.items ≡ Some c.in-Some.place = cc (c.in-Some.ensures, c.as_slice.ensures.value) in
-    let room = had_room c.args.log c.args.rows.now.items c.in-Some.place c.index_mut-row.result.now e c.requires in
+    let room = had_room c.args.log c.args.rows.now.items c.in-Some.place c.index_mut-row.result.now e c.requires.room in
     rw (← c.index_mut-row.ensures.value) at room
 
 pub returns-in-None : goal.returns-in-None

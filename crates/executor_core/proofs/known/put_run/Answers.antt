@@ -1,10 +1,10 @@
-use Rattle.std.proofs.Common.{◌≡◌, ℕ, ◌<◌, ◌≤◌, ◌==◌, ◌++◌, [], ◌∷◌, true, false, nat_le, List, position, None, Some, length, get_or, map, sym, ap, ◌∙◌, arith, rules}
+use Rattle.std.proofs.Common.{◌≡◌, ℕ, ◌==◌, true, false, nat_le, List, position, None, Some, get_or, map, sym, ap, ◌∙◌}
 use Rattle.std.proofs.lemmas.List.{get_or_default}
 use Rattle.std.proofs.lemmas.List.Quantifiers.{position-Some}
 use Rattle.executor_history.specs.Past.{Known}
 use Rattle.executor_core.specs.declared.known_row.KnownRow.{KnownRow}
 use Rattle.executor_core.specs.Rows.{known_in}
-use Rattle.executor_core.proofs.KnownRows.{room_none, line_none, room_at, had_room, line_at, run_end_put, run_again, run_new, same_at, filter-map}
+use Rattle.executor_core.proofs.KnownRows.{run_end_put, run_again, run_new}
 use Rattle.executor_core.proofs.known.put_run.Goals as goal
 
 pub returns-in-None : goal.returns-in-None
@@ -28,4 +28,4 @@ returns-else-eq c =
     let e : position (λ (r : KnownRow). nat_le c.args.log r.log) c.args.rows.now.items ≡ Some c.in-Some.place = cc (c.in-Some.ensures, c.as_slice.ensures.value) in
     let with : List (List ℕ) → Known = λ ls. record { log = c.args.log; moment = c.args.moment; lines = ls } in
     let differs : (c.args.log == (get_or c.args.rows.now.items c.in-Some.place c.index.result.now).log) ≡ false = ap (λ (r : KnownRow). c.args.log == r.log) (sym c.index.ensures) ∙ sym c.if-eq.ensures in
-    rw c.insert-inserted.ensures.items (rw (c.insert-inserted.ensures.succeeds c.requires) (run_new c.args.log c.args.moment c.args.rows.now.items c.in-Some.place c.index.result.now _ e differs (ap with c.new-else-eq.ensures.items)))
+    rw c.insert-inserted.ensures.items (rw (c.insert-inserted.ensures.succeeds c.requires.room) (run_new c.args.log c.args.moment c.args.rows.now.items c.in-Some.place c.index.result.now _ e differs (ap with c.new-else-eq.ensures.items)))

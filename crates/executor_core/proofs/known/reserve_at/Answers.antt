@@ -1,9 +1,6 @@
-use Rattle.std.proofs.Common.{◌≡◌, ℕ, ◌<◌, ◌≤◌, ◌==◌, ◌++◌, [], ◌∷◌, true, false, nat_le, List, position, None, Some, length, get_or, map, sym, ap, ◌∙◌, arith, rules}
-use Rattle.std.proofs.lemmas.List.{get_or_default}
-use Rattle.executor_history.specs.Past.{Known}
+use Rattle.std.proofs.Common.{◌≡◌, ◌==◌, position, None, Some, ap, ◌∙◌}
 use Rattle.executor_core.specs.declared.known_row.KnownRow.{KnownRow}
-use Rattle.executor_core.specs.Rows.{known_in}
-use Rattle.executor_core.proofs.KnownRows.{room_none, line_none, room_at, had_room, line_at, run_end_put, run_again, run_new, same_at, filter-map, on_ok}
+use Rattle.executor_core.proofs.KnownRows.{room_none, room_at, same_at, on_ok}
 use Rattle.executor_core.proofs.known.reserve_at.Goals as goal
 
 pub returns-in-None-clause-room : goal.returns-in-None-clause-room

@@ -1,6 +1,6 @@
 use Rattle.std.proofs.Common.{◌<◌, length, sym, ap, ◌∙◌, arith}
 use Rattle.std.proofs.lemmas.List.Edits.{map_over_more}
-use Rattle.executor_history.specs.Runs.{ended_of, expired_of}
+use Rattle.executor_history.specs.Runs.{expired_of}
 use Rattle.executor_core.proofs.runs.expire_runs.Goals as goal
 
 pub loop-working-preserved : goal.loop-working-preserved

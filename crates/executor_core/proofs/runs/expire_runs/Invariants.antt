@@ -1,5 +1,5 @@
 use Rattle.std.proofs.Common.{◌≡◌, ◌++◌, map, take, drop}
-use Rattle.executor_history.specs.Runs.{ended_of, expired_of}
+use Rattle.executor_history.specs.Runs.{expired_of}
 use Rattle.executor_core.proofs.runs.expire_runs.Given as goal
 
 abbrev pub invariant-loop-working : goal.invariant-loop-working

@@ -1,4 +1,4 @@
-use Rattle.std.proofs.Common.{◌≡◌, refl, sym, ap, ◌∙◌, subst}
+use Rattle.std.proofs.Common.{refl, sym, subst}
 use Rattle.cluster_core.specs.contracts.cluster.Cluster.{the_view}
 use Rattle.cluster_core.specs.declared.prepared.NodeChange.TheVariants as node
 use Rattle.cluster_core.specs.Kept.{kept_of, IsSound}

@@ -2,11 +2,9 @@ use Rattle.std.proofs.Common.{◌≡◌, ap, sym, ◌∙◌, subst}
 use Rattle.job_records.specs.Changes.{applied_all, AreAllowed}
 use Rattle.job_records.specs.Room.{RecordsState}
 use Rattle.job_records.specs.Rules.{KeepsRules}
-use Rattle.job_records.specs.Tables.{Tables}
 use Rattle.job_records.proofs.Keeping.{all_keep}
 use Rattle.cluster_core.specs.contracts.cluster.Cluster.{the_view}
-use Rattle.cluster_core.specs.Kept.{Kept, ClusterState, kept_of}
-use Rattle.cluster_core.specs.Commits.{committed}
+use Rattle.cluster_core.specs.Kept.{ClusterState, kept_of}
 use Rattle.cluster_core.specs.Stands.{Answered}
 use Rattle.cluster_core.proofs.KeptLemmas.{kept-committed}
 use Rattle.cluster_core.proofs.SoundLemmas.{sound-rows}

@@ -1,5 +1,5 @@
-use Rattle.std.proofs.Common.{◌≡◌, ◌≤◌, ◌*◌, length, sym, ap, ◌∙◌, subst, min, ◌^◌, ◌-◌, arith}
-use Rattle.std.specs.Prelude.{sum_by, count_by}
+use Rattle.std.proofs.Common.{◌≡◌, length, sym, ap, ◌∙◌, subst, min, ◌^◌, ◌-◌, arith}
+use Rattle.std.specs.Prelude.{count_by}
 use Rattle.trigger_pool.specs.Pool.{PoolState}
 use Rattle.cluster_core.specs.contracts.cluster.Cluster.{the_view}
 use Rattle.cluster_core.specs.Kept.{ClusterState, kept_of}

@@ -1,4 +1,4 @@
-use Rattle.std.proofs.Common.{◌≡◌, ◌<◌, ◌+◌, ◌∙◌, ℕ, List, length, Option, Some, None, ap, sym, subst, refl, arith}
+use Rattle.std.proofs.Common.{◌≡◌, ◌<◌, ◌+◌, ◌∙◌, ℕ, List, length, Some, None, ap, sym, subst, arith}
 use Rattle.std.specs.Option.{option_copied}
 use Rattle.job_values.specs.declared.words.TriggerKind.TheVariants.{Manual}
 use Rattle.job_records.specs.declared.job.Job.{Job}
@@ -7,7 +7,6 @@ use Rattle.job_records.specs.Rules.{KeepsRules}
 use Rattle.std.specs.Prelude.{unwrap_or}
 use Rattle.cluster_history.specs.History.{accepted}
 use Rattle.cluster_history.specs.Firings.{shots_with}
-use Rattle.cluster_core.specs.declared.firing.Fired.{Fired}
 use Rattle.cluster_core.specs.Firing.{FiresAs, Fires}
 use Rattle.cluster_core.specs.Kept.{ClusterState, kept_of}
 use Rattle.cluster_core.proofs.PlanLemmas.{planned-refused, refused-stopped}

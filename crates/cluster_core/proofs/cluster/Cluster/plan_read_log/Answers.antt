@@ -1,10 +1,8 @@
-use Rattle.std.proofs.Common.{◌≡◌, Option, Some, ap, sym, ◌∙◌, subst}
-use Rattle.job_values.specs.declared.cluster.ClusterReply.TheVariants.{Shown}
+use Rattle.std.proofs.Common.{◌≡◌, Some, sym, subst}
 use Rattle.job_records.specs.declared.log.Log.{Log}
 use Rattle.job_records.specs.Rows.{row_with}
-use Rattle.cluster_history.specs.Replies.{shown_of}
 use Rattle.cluster_core.specs.Kept.{ClusterState}
-use Rattle.cluster_core.proofs.ShownLemmas.{planned-no_log, planned-shown}
+use Rattle.cluster_core.proofs.ShownLemmas.{planned-shown}
 use Rattle.cluster_core.proofs.cluster.Cluster.plan_read_log.Goals as goal
 
 pub returns : goal.returns

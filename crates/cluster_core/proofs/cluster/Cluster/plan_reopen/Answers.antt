@@ -1,4 +1,4 @@
-use Rattle.std.proofs.Common.{◌≡◌, ℕ, List, ◌++◌, map, sym, ap, ◌∙◌, subst}
+use Rattle.std.proofs.Common.{◌≡◌, List, ◌++◌, map, sym, ap, ◌∙◌, subst}
 use Rattle.std.specs.List.{concat}
 use Rattle.job_values.specs.declared.cluster.ClusterEvent.TheVariants.{Reopen}
 use Rattle.job_values.specs.declared.cluster.ClusterReply.TheVariants.{Reopened}

@@ -1,5 +1,4 @@
-use Rattle.std.proofs.Common.{◌≡◌, ◌+◌, ◌*◌, ◌∙◌, List, Option, Some, None, ap, sym, subst, refl, rules}
-use Rattle.cluster_history.specs.declared.scan.Scan.{Scan}
+use Rattle.std.proofs.Common.{◌≡◌, ◌+◌, ◌*◌, ◌∙◌, List, Some, None, ap, sym, subst, rules}
 use Rattle.cluster_history.specs.History.{accepted}
 use Rattle.cluster_history.specs.Pages.{page_in, page_limit}
 use Rattle.job_records.specs.declared.job.Job.{Job}

@@ -1,0 +1,4 @@
+pub mod PortLemmas
+pub mod AddressLemmas
+pub mod ExchangeLemmas
+pub mod AskLemmas

@@ -1,0 +1,15 @@
+pub mod DrawLemmas
+pub mod FieldLemmas
+pub mod HeadLemmas
+pub mod GrowLemmas
+pub mod StreamLemmas
+pub mod TakeLemmas
+pub mod AnswerLemmas
+pub mod LineLemmas
+pub mod CloseLemmas
+pub mod ChunkLemmas
+pub mod ChunkedLemmas
+pub mod UniqueLemmas
+pub mod LawLemmas
+pub mod BodyLemmas
+pub mod OuterLemmas

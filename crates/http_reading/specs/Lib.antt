@@ -1,0 +1,12 @@
+pub mod Buffer
+pub mod Plans
+pub mod Found
+pub mod Draws
+pub mod Chunks
+pub mod Bodies
+pub mod Requests
+pub mod Responses
+pub mod Heads
+pub mod BodyReads
+pub mod ChunkReads
+pub mod Laws

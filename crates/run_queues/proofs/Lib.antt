@@ -1,0 +1,4 @@
+pub mod Places
+pub mod Merged
+pub mod Fronts
+pub mod Holds

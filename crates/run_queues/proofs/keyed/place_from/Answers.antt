@@ -1,0 +1,22 @@
+use Rattle.std.proofs.Common.{◌≡◌, ◌<◌, ◌≤◌, ℕ, true, false, arith, rules, ltb}
+use Rattle.std.proofs.lemmas.Bool.Decides.{nat_tests}
+use Rattle.std.proofs.lemmas.List.Sorted.{IsPartitionPoint-from_clause, IsPartitionedBy-ltb}
+use Rattle.run_queues.proofs.Places.{rises-sorted}
+use Rattle.run_queues.proofs.keyed.place_from.Goals as goal
+
+less : (m n : ℕ) → ltb m n ≡ true → m < n
+less m n h = grind (arith, nat_tests)
+
+not_less : (m n : ℕ) → ltb m n ≡ false → n ≤ m
+not_less m n h = grind (arith, nat_tests)
+
+pub returns : goal.returns
+returns g c =
+    let key_of = g.T.Keyed.key_of in
+    let split = IsPartitionPoint-from_clause (λ y. ltb (key_of y) c.args.key) c.args.items.now c.partition_point.result c.partition_point.ensures.partitioned
+    (IsPartitionedBy-ltb key_of c.args.items.now c.args.key (rises-sorted key_of 0 c.args.items.now c.requires)) (λ a r f' k. search rules) in
+    record {
+      within = c.partition_point.ensures.bound;
+      below = λ k d lt. less (key_of _) c.args.key (split.0 k d (omega arith) lt);
+      above = λ k d ge lt. not_less (key_of _) c.args.key (split.1 k d ge lt);
+    }

@@ -1,0 +1,21 @@
+//! The first run of a queue, as the index of the queues keeps it.
+ghost use Rattle.std.specs.Prelude.{◌≡◌};
+
+use super::keyed::Keyed;
+use job_values::JobId;
+
+/// The first run of a job that waits.
+#[derive(Clone, Copy, Debug)]
+pub struct Front {
+    /// Its place in order of acceptance.
+    pub number: u64,
+    pub job: JobId,
+}
+
+impl Keyed for Front {
+    ghost key_of = { λ f. f.number };
+
+    fn key(&self) -> u64 {
+        self.number
+    }
+}

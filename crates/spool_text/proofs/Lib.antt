@@ -1,0 +1,4 @@
+mod Plain
+mod Lines
+mod Progress
+mod Written

@@ -1,0 +1,51 @@
+//! The text of one item, and what is refused.
+
+use super::{SpoolFault, read_spool, write_spool};
+use job_values::{CallbackItem, LogId, LogMoment, ResultText, Seq, Text};
+use std::alloc::Global;
+use std::test::Fail;
+
+const LINE: &str = "{\"handleCode\":200,\"handleMsg\":\"\",\"logDateTim\":100000,\"logId\":1}";
+
+fn item(alloc: Global) -> Result<CallbackItem, Fail> {
+    Ok(CallbackItem {
+        log: LogId::new(1).ok_or("a log id")?,
+        log_moment: LogMoment::new(100_000).ok_or("a log moment")?,
+        code: 200,
+        msg: ResultText::new(Text::copied(alloc, "")?).ok_or("a text")?,
+    })
+}
+
+/// The line of a fault, or 0 where the text is read.
+fn bad_line(alloc: Global, text: &str) -> Result<u64, Fail> {
+    match read_spool(alloc, text.as_bytes()) {
+        Ok(_) => Ok(0),
+        Err(SpoolFault::Bad { line }) => Ok(line),
+        Err(SpoolFault::NoMemory) => Err(Fail::from("no memory")),
+    }
+}
+
+#[test]
+fn one_item(rt: HostRuntime) -> Result<(), Fail> {
+    let alloc = rt.alloc();
+    let mut items = Seq::new(alloc);
+    items.push(item(alloc)?)?;
+    let written = write_spool(alloc, &items)?;
+    let text = format!(in alloc; "{LINE}\n")?;
+    assert_eq!(rt; written.as_slice(), text.as_bytes());
+    let read = read_spool(alloc, text.as_bytes())?;
+    assert_eq!(rt; read.len(), 1);
+    Ok(())
+}
+
+#[test]
+fn bad_lines(rt: HostRuntime) -> Result<(), Fail> {
+    let alloc = rt.alloc();
+    assert_eq!(rt; bad_line(alloc, "")?, 0);
+    assert_eq!(rt; bad_line(alloc, LINE)?, 1);
+    let twice = format!(in alloc; "{LINE}\n{LINE}\n")?;
+    assert_eq!(rt; bad_line(alloc, twice.as_str())?, 2);
+    let empty = format!(in alloc; "{LINE}\n\n")?;
+    assert_eq!(rt; bad_line(alloc, empty.as_str())?, 2);
+    Ok(())
+}

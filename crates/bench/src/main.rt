@@ -3,6 +3,7 @@
 #![tactic(auto)]
 
 mod acts;
+mod clusters;
 mod cron;
 mod lines;
 mod messages;
@@ -24,7 +25,8 @@ fn smoke<R: Print + Clock + Threads + Wait + Sync>(rt: &R, alloc: Global) -> io:
     requests::run(rt, alloc, 20, false)?;
     acts::run(rt, alloc, 200, false)?;
     lines::run(rt, alloc, 2, false)?;
-    replays::run(rt, alloc, 20, false)
+    replays::run(rt, alloc, 20, false)?;
+    clusters::run(rt, alloc, 100, 2, false)
 }
 
 fn main(rt: HostRuntime) -> io::Result<()> {
@@ -39,6 +41,11 @@ fn main(rt: HostRuntime) -> io::Result<()> {
             "lock" => acts::run(&rt, alloc, 200_000, true)?,
             "lines" => lines::run(&rt, alloc, 200_000, true)?,
             "replays" => replays::run(&rt, alloc, 100_000, true)?,
+            "cluster" => {
+                for jobs in [100, 10_000, 100_000] {
+                    clusters::run(&rt, alloc, jobs, 1_000, true)?;
+                }
+            }
             other => println!(rt; "no workload {other}")?,
         }
     }

@@ -1,5 +1,5 @@
 -- A line has its end at its end and nowhere else.
-use Rattle.std.proofs.Common.{◌≡◌, ℕ, zero, suc, ◌+◌, ◌/◌, ◌%◌, ◌<◌, ◌≤◌, Bool, true, false, cond, nat_eq, nat_lt, List, [], ◌∷◌, ◌++◌, length, refl, ap, arith, length-append, codes}
+use Rattle.std.proofs.Common.{◌≡◌, ℕ, zero, suc, ◌+◌, ◌/◌, ◌%◌, ◌<◌, ◌≤◌, Bool, true, false, cond, nat_eq, nat_lt, List, [], ◌∷◌, ◌++◌, length, refl, ap, arith, length-append, codes, Option, Some, None}
 use Rattle.std.proofs.lemmas.Bool.{eqb-true, ltb-false}
 use Rattle.std.specs.List.{flat_map}
 use Rattle.std.specs.Fmt.{decimal, digits, digits_onto, digit_glyph}
@@ -16,9 +16,9 @@ use Rattle.job_values.specs.declared.words.GroupKind.{GroupKind}
 use Rattle.job_values.specs.declared.words.GroupKind.TheVariants as group_kinds
 use Rattle.job_values.specs.declared.job.JobSpec.{JobSpec}
 use Rattle.job_values.specs.declared.cluster.ClusterEvent.{ClusterEvent}
-use Rattle.job_values.specs.declared.cluster.ClusterEvent.TheVariants.{NodeStart, AddGroup, AddJob, StartJob, ScanBegin, ScanStep, Turn}
+use Rattle.job_values.specs.declared.cluster.ClusterEvent.TheVariants.{NodeStart, NodeStop, NodeAsk, AddGroup, SetGroup, AddJob, UpdateJob, StartJob, StopJob, RemoveJob, TriggerJob, ScanBegin, ScanStep, Turn, ReadLog, Reopen}
 use Rattle.line_grammar.specs.Texts.{escape, spelled, hex_digit}
-use Rattle.line_grammar.specs.Writing.{quoted, spaced_text, spaced_number, counted_texts, counted_numbers}
+use Rattle.line_grammar.specs.Writing.{quoted, optional_text, spaced_text, spaced_number, counted_texts, counted_numbers}
 use Rattle.script_text.specs.Lines.{IsLine}
 use Rattle.script_text.specs.Spelling.{event_words, spec_text, trigger_text, work_text}
 use Rattle.script_text.proofs.SpellingLaws.{found}
@@ -125,17 +125,47 @@ spec_open s =
     (quoted_open s.handler) (quoted_open s.param) (decimal_open s.timeout) (decimal_open s.retries)
     (open_append (decimal (length s.children)) (flat_map spaced_number s.children) (decimal_open (length s.children)) (numbers_open s.children)))
 
+optional_open : (text : Option (List ℕ)) → is_open (optional_text text) ≡ true
+optional_open None = refl
+optional_open (Some text) = quoted_open text
+
+counted_open : (texts : List (List ℕ)) → is_open (32 ∷ counted_texts texts) ≡ true
+counted_open texts = open_append (decimal (length texts)) (flat_map spaced_text texts) (decimal_open (length texts)) (texts_open texts)
+
+-- a word and two numbers, and the kind and the addresses of a group behind what names it
+numbers_behind : (word : List ℕ) (first second : ℕ) → is_open word ≡ true → is_open (word ++ decimal first ++ spaced_number second) ≡ true
+numbers_behind word first second one =
+    open_append (word ++ decimal first) (spaced_number second) (open_append word (decimal first) one (decimal_open first)) (decimal_open second)
+
+addresses_behind : (front : List ℕ) (kind : GroupKind) (addresses : List (List ℕ)) → is_open front ≡ true →
+    is_open (front ++ 32 ∷ group_kind_text kind ++ 32 ∷ counted_texts addresses) ≡ true
+addresses_behind front kind addresses one =
+    open_append (front ++ 32 ∷ group_kind_text kind) (32 ∷ counted_texts addresses)
+    (open_append front (32 ∷ group_kind_text kind) one (group_kind_open kind)) (counted_open addresses)
+
 words_open : (e : ClusterEvent) → is_open (event_words e) ≡ true
 words_open (NodeStart a) = decimal_open a
+words_open (NodeStop a) = decimal_open a
+words_open (NodeAsk a) = decimal_open a
 words_open (AddGroup app kind addresses) =
-    open_append (codes "addgroup " ++ quoted app ++ 32 ∷ group_kind_text kind) (32 ∷ counted_texts addresses)
-    (open_append (codes "addgroup " ++ quoted app) (32 ∷ group_kind_text kind) (open_append (codes "addgroup ") (quoted app) refl (quoted_open app)) (group_kind_open kind))
-    (open_append (decimal (length addresses)) (flat_map spaced_text addresses) (decimal_open (length addresses)) (texts_open addresses))
+    addresses_behind (codes "addgroup " ++ quoted app) kind addresses (open_append (codes "addgroup ") (quoted app) refl (quoted_open app))
+words_open (SetGroup group kind addresses) =
+    addresses_behind (codes "setgroup " ++ decimal group) kind addresses (open_append (codes "setgroup ") (decimal group) refl (decimal_open group))
 words_open (AddJob s) = spec_open s
-words_open (StartJob at job) = open_append (codes "startjob " ++ decimal at) (spaced_number job) (open_append (codes "startjob ") (decimal at) refl (decimal_open at)) (decimal_open job)
-words_open (ScanBegin a at) = open_append (codes "scan " ++ decimal a) (spaced_number at) (open_append (codes "scan ") (decimal a) refl (decimal_open a)) (decimal_open at)
+words_open (UpdateJob at job s) =
+    open_append (codes "setjob " ++ decimal at ++ spaced_number job) (32 ∷ spec_text s) (numbers_behind (codes "setjob ") at job refl) (spec_open s)
+words_open (StartJob at job) = numbers_behind (codes "startjob ") at job refl
+words_open (StopJob job) = decimal_open job
+words_open (RemoveJob job) = decimal_open job
+words_open (TriggerJob a at job own) =
+    open_append (codes "fire " ++ decimal a ++ spaced_number at ++ spaced_number job) (32 ∷ optional_text own)
+    (open_append (codes "fire " ++ decimal a ++ spaced_number at) (spaced_number job) (numbers_behind (codes "fire ") a at refl) (decimal_open job))
+    (optional_open own)
+words_open (ScanBegin a at) = numbers_behind (codes "scan ") a at refl
 words_open (ScanStep a) = decimal_open a
-words_open (Turn a at) = open_append (codes "turn " ++ decimal a) (spaced_number at) (open_append (codes "turn ") (decimal a) refl (decimal_open a)) (decimal_open at)
+words_open (Turn a at) = numbers_behind (codes "turn ") a at refl
+words_open (ReadLog l) = decimal_open l
+words_open Reopen = refl
 
 -- a line is the next line of the bytes that it begins
 pub line_next : (e : ClusterEvent) (line more : List ℕ) → IsLine e line → next_line (line ++ more) ≡ line

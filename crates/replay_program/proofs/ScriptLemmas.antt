@@ -3,17 +3,19 @@ use Rattle.std.proofs.Common.{◌≡◌, ℕ, ◌+◌, List, [], ◌∷◌, ◌+
 use Rattle.replay_program.specs.Cuts.{is_within}
 use Rattle.std.specs.List.{flat_map}
 use Rattle.std.proofs.lemmas.List.{flat_map_more}
+use Rattle.job_values.specs.declared.job.Report.{Report}
 use Rattle.job_values.specs.declared.cluster.ClusterEvent.{ClusterEvent}
 use Rattle.job_values.specs.declared.cluster.ClusterReply.{ClusterReply}
 use Rattle.cluster_history.specs.declared.settings.Settings.{Settings}
 use Rattle.cluster_history.specs.History.{History, After}
 use Rattle.cluster_history.specs.Replies.{reply_of}
-use Rattle.cluster_history.specs.Runs.{run, replies}
+use Rattle.cluster_history.specs.Runs.{run, replies, report_of}
+use Rattle.cluster_core.specs.Kept.{kept_of}
 use Rattle.cluster_core.specs.Stands.{StandsFor}
 use Rattle.cluster_core.specs.Stands as core
 use Rattle.script_text.specs.Lines.{IsLine}
-use Rattle.script_text.specs.Replies.{reply_text}
-use Rattle.replay_program.specs.Script.{IsTaken, opening, replies_text, Stands}
+use Rattle.script_text.specs.Replies.{reply_text, report_text}
+use Rattle.replay_program.specs.Script.{IsTaken, opening, replies_text, report_with, report_line, Stands}
 use Rattle.replay_program.specs.Took.{Answers, Acts, Takes}
 use Rattle.replay_program.specs.declared.machine.Took.{Took}
 use Rattle.replay_program.specs.declared.machine.Took.TheVariants.{Reply, NoLine}
@@ -56,7 +58,7 @@ pub answers_line : (settings : Settings) (old new : Machine) (e : ClusterEvent) 
     (lines : ℕ) (whole text : List ℕ) → is_within (length whole) line ≡ true → Stands settings old lines whole text → Answers settings old new line before after lines whole text
 answers_line settings old new e reply line before after answers says buffer lines whole text within stands =
     let h : History = run (opening settings) stands.events in
-    let answered : core.Answered h e reply new.cluster = answers h stands.stands in
+    let answered : core.Answered h e reply (kept_of new.cluster) = answers h stands.stands in
     let P : History → Type 0 = λ t. StandsFor new.cluster t in
     record {
       reply = reply_text reply;
@@ -78,3 +80,9 @@ takes_line old new e line before after (Ok Reply) says acted =
     λ settings. answers_line settings old new e acted.reply line before after acted.answers says acted.buffer
 takes_line old new e line before after (Ok (NoLine column)) says acted = absurd acted
 takes_line old new e line before after (Err fault) says acted = tt
+
+-- the counts of a run, with the number of its lines, are its report
+pub reports_run : (settings : Settings) (lines : ℕ) (events : List ClusterEvent) (counts : Report) → length events ≡ lines →
+    counts ≡ report_of (run (opening settings) events) → report_text (report_with lines counts) ≡ report_line settings events
+reports_run settings lines events counts count is =
+    ap (λ n. report_text (report_with n counts)) (sym count) ∙ ap (λ r. report_text (report_with (length events) r)) is

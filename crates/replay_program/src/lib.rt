@@ -6,6 +6,8 @@ mod next;
 mod replay;
 mod stream;
 #[cfg(test)]
+mod test_admins;
+#[cfg(test)]
 mod tests;
 mod words;
 

@@ -10,13 +10,13 @@ struct Row {
     status: u8,
 }
 
-/// The words, the start of every script with a job of rate 10, and its replies.
+/// The start of every script, with a job of rate 10, and its replies.
 const JOB: &str =
     "start 0\naddgroup \"demo\" manual 1 \"http://e1:9999/\"\naddjob 1 FIX_RATE \"10\" DO_NOTHING FIRST SERIAL_EXECUTION \"demo\" \"\" 0 0 0\n";
 
 const JOB_REPLIES: &str = "ok\ngroup 1\njob 1\n";
 
-const ROWS: [Row; 21] = [
+const ROWS: [Row; 20] = [
     Row {
         script: "startjob 100000 1\nscan 0 109999\nscan 0 110000\nstep 0\nturn 0 115000\nturn 0 115000\n",
         written: "running 1 115000\nbegun 0\nbegun 1\nlook 1 early 115000 125000 115000 0\nfired 1 1 1 115000 1 1:fast\nfired 0\nend entries 9 jobs 1 logs 1 settled 0 failed 0 waiting 0 queued 1 held 0\n",
@@ -88,11 +88,6 @@ const ROWS: [Row; 21] = [
         status: 0,
     },
     Row {
-        script: "start 16\n",
-        written: "bad line 4 7\n",
-        status: 1,
-    },
-    Row {
         script: "stat 0\n",
         written: "bad line 4 4\n",
         status: 1,
@@ -125,7 +120,7 @@ const ROWS: [Row; 21] = [
 ];
 
 /// The words of a command.
-fn words(rt: &impl Alloc<A = std::alloc::Global>, of: &[&str]) -> Result<Vec<String>, Fail> {
+pub(crate) fn words(rt: &impl Alloc<A = std::alloc::Global>, of: &[&str]) -> Result<Vec<String>, Fail> {
     let mut words = Vec::new(rt.alloc());
     for word in of {
         words.push(String::from_str(rt.alloc(), word)?)?;

@@ -10,6 +10,7 @@ mod messages;
 mod parts;
 mod replays;
 mod requests;
+mod runs;
 
 use std::alloc::Global;
 use std::io::Print;
@@ -23,6 +24,7 @@ fn smoke<R: Print + Clock + Threads + Wait + Sync>(rt: &R, alloc: Global) -> io:
     parts::run(rt, alloc, 2_000, false)?;
     messages::run(rt, alloc, 2, false)?;
     requests::run(rt, alloc, 20, false)?;
+    runs::run(rt, alloc, 20, false)?;
     acts::run(rt, alloc, 200, false)?;
     lines::run(rt, alloc, 2, false)?;
     replays::run(rt, alloc, 20, false)?;
@@ -38,6 +40,7 @@ fn main(rt: HostRuntime) -> io::Result<()> {
             "parts" => parts::run(&rt, alloc, 2_000_000, true)?,
             "messages" => messages::run(&rt, alloc, 1_000, true)?,
             "requests" => requests::run(&rt, alloc, 20_000, true)?,
+            "executor" => runs::run(&rt, alloc, 100_000, true)?,
             "lock" => acts::run(&rt, alloc, 200_000, true)?,
             "lines" => lines::run(&rt, alloc, 200_000, true)?,
             "replays" => replays::run(&rt, alloc, 100_000, true)?,

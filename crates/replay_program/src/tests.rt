@@ -120,7 +120,10 @@ const ROWS: [Row; 20] = [
 ];
 
 /// The words of a command.
-pub(crate) fn words(rt: &impl Alloc<A = std::alloc::Global>, of: &[&str]) -> Result<Vec<String>, Fail> {
+pub(crate) fn words(
+    rt: &impl Alloc<A = std::alloc::Global>,
+    of: &[&str],
+) -> Result<Vec<String>, Fail> {
     let mut words = Vec::new(rt.alloc());
     for word in of {
         words.push(String::from_str(rt.alloc(), word)?)?;

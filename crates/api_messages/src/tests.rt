@@ -297,6 +297,19 @@ fn callbacks_are_read_and_written(rt: HostRuntime) -> Result<(), Fail> {
 }
 
 #[test]
+fn one_item_is_read_and_written(rt: HostRuntime) -> Result<(), Fail> {
+    let alloc = rt.alloc();
+    let body = b"{\"handleCode\":200,\"handleMsg\":\"\",\"logDateTim\":100000,\"logId\":1}";
+    let item = read_item(alloc, body)?;
+    assert_eq!(rt; item.log.get(), 1);
+    assert_eq!(rt; item.log_moment.get(), 100_000);
+    assert_eq!(rt; item.code, 200);
+    assert_eq!(rt; item.msg.as_str(), "");
+    assert_eq!(rt; write_item(alloc, &item)?.as_slice(), body.as_slice());
+    Ok(())
+}
+
+#[test]
 fn tokens_are_compared(rt: HostRuntime) {
     assert!(rt; token_ok(b"", None));
     assert!(rt; token_ok(b"", Some(b"a")));

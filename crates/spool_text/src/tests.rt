@@ -35,6 +35,8 @@ fn one_item(rt: HostRuntime) -> Result<(), Fail> {
     assert_eq!(rt; written.as_slice(), text.as_bytes());
     let read = read_spool(alloc, text.as_bytes())?;
     assert_eq!(rt; read.len(), 1);
+    let again = write_spool(alloc, &read)?;
+    assert_eq!(rt; again.as_slice(), text.as_bytes());
     Ok(())
 }
 

@@ -11,6 +11,8 @@ pub mod known_row;
 pub mod replies;
 pub mod runs;
 #[cfg(test)]
+mod test_lines;
+#[cfg(test)]
 mod tests;
 
 pub use change::{Change, PreparedRun};

@@ -32,7 +32,5 @@ pub use manage::{ManageMessage, read_manage_body, write_manage_body};
 pub use registry::{RegistryMessage, read_registry, write_registry};
 pub use returned::{ReturnMessage, read_return, write_return};
 pub use run::{RunMessage, read_run, write_run};
+pub use text_member::cut;
 pub use token::token_ok;
-
-#[cfg(test)]
-mod tests;

@@ -18,7 +18,7 @@ use serde_json::{Value, json};
 use std::alloc::{AllocError, Global};
 
 /// Lines of a log.
-#[derive(Debug, Drop)]
+#[derive(Drop)]
 pub struct LogAnswer {
     /// The first line, counted from 1.
     pub from_line_num: i32,

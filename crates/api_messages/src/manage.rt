@@ -17,7 +17,7 @@ use serde_json::{Value, json};
 use std::alloc::{AllocError, Global};
 
 /// Carries one management line to an admin.
-#[derive(Debug, Drop)]
+#[derive(Drop)]
 pub struct ManageMessage {
     /// The line without its LF.
     pub line: Text,

@@ -17,7 +17,7 @@ use serde_json::{Value, json};
 use std::alloc::{AllocError, Global};
 
 /// Tells an admin that an executor is there, or no longer. Each text has at most 255 bytes.
-#[derive(Debug, Drop)]
+#[derive(Drop)]
 pub struct RegistryMessage {
     pub registry_group: Text,
     /// The application of the executor.

@@ -19,7 +19,7 @@ use serde_json::{Map, Value, put};
 use std::alloc::{AllocError, Global};
 
 /// The answer to a call.
-#[derive(Debug, Drop)]
+#[derive(Drop)]
 pub struct ReturnMessage {
     /// 200 where the call was taken.
     pub code: i32,

@@ -18,7 +18,7 @@ use serde_json::{Value, json};
 use std::alloc::{AllocError, Global};
 
 /// Asks an executor to run a job.
-#[derive(Debug, Drop)]
+#[derive(Drop)]
 pub struct RunMessage {
     /// The index among the addresses, from 0 to 2^31 - 1.
     pub broadcast_index: u32,

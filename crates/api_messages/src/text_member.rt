@@ -20,9 +20,9 @@ fn copied(alloc: Global, from: &str) -> Result<Text, MessageFault>
     }
 }
 
-/// The text where it fits, else its longest front of whole characters that fits.
+/// The text where it has at most `most` bytes, else its longest front of whole characters that fits.
 #[tactic(auto, unfolding(crate::specs::Reading::cut))]
-fn cut(from: &str, most: usize) -> &str
+pub fn cut(from: &str, most: usize) -> &str
     ensures value { result.now ≡ cut_of most from.now }
     ensures fits { length result.now ≤ most }
 {

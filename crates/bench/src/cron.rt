@@ -6,6 +6,7 @@ use std::alloc::Global;
 use std::io;
 use std::rt::Clock;
 use std::time::Instant;
+use zone_texts::Zone;
 
 /// Texts as users write them most.
 const EVERYDAY: [&str; 10] = [
@@ -71,9 +72,13 @@ fn walk(schedule: &Schedule, rounds: u32) -> (u64, u64) {
     let mut found: u64 = 0;
     let mut none: u64 = 0;
     if let (Some(start), Some(offset)) = (Moment::new(1_717_200_000_000), Offset::new(28_800)) {
+        let zone = Zone {
+            standard: offset,
+            rules: None,
+        };
         let mut at = start;
         for _ in 0..rounds {
-            match schedule.after(at, offset) {
+            match schedule.after(at, &zone) {
                 Some(next) => {
                     found = found.saturating_add(1);
                     at = next;

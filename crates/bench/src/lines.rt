@@ -1,6 +1,6 @@
 //! How many lines are read, and written, a second.
 
-use job_values::ClusterEvent;
+use job_events::ClusterEvent;
 use script_text::{read_line, write_line};
 use std::alloc::Global;
 use std::io;

@@ -1,16 +1,13 @@
-//! Workloads, one a word: each prints its counts, its sizes and its operations per second. The word
+//! Workloads of the parts, one a word: each prints its counts, its sizes and its operations per second. The word
 //! `smoke` runs every workload a few times and prints counts alone, the same each time.
 #![tactic(auto)]
 
 mod acts;
-mod clusters;
 mod cron;
 mod lines;
 mod messages;
 mod parts;
-mod replays;
 mod requests;
-mod runs;
 
 use std::alloc::Global;
 use std::io::Print;
@@ -24,11 +21,8 @@ fn smoke<R: Print + Clock + Threads + Wait + Sync>(rt: &R, alloc: Global) -> io:
     parts::run(rt, alloc, 2_000, false)?;
     messages::run(rt, alloc, 2, false)?;
     requests::run(rt, alloc, 20, false)?;
-    runs::run(rt, alloc, 20, false)?;
     acts::run(rt, alloc, 200, false)?;
-    lines::run(rt, alloc, 2, false)?;
-    replays::run(rt, alloc, 20, false)?;
-    clusters::run(rt, alloc, 100, 2, false)
+    lines::run(rt, alloc, 2, false)
 }
 
 fn main(rt: HostRuntime) -> io::Result<()> {
@@ -40,15 +34,8 @@ fn main(rt: HostRuntime) -> io::Result<()> {
             "parts" => parts::run(&rt, alloc, 2_000_000, true)?,
             "messages" => messages::run(&rt, alloc, 1_000, true)?,
             "requests" => requests::run(&rt, alloc, 20_000, true)?,
-            "executor" => runs::run(&rt, alloc, 100_000, true)?,
             "lock" => acts::run(&rt, alloc, 200_000, true)?,
             "lines" => lines::run(&rt, alloc, 200_000, true)?,
-            "replays" => replays::run(&rt, alloc, 100_000, true)?,
-            "cluster" => {
-                for jobs in [100, 10_000, 100_000] {
-                    clusters::run(&rt, alloc, jobs, 1_000, true)?;
-                }
-            }
             other => println!(rt; "no workload {other}")?,
         }
     }

@@ -1,7 +1,7 @@
 -- How many of the waiting items a batch takes.
 use Rattle.std.specs.Prelude.{ℕ, ◌+◌, ◌&&◌, ◌≤◌, nat_lt, nat_le, if◌then◌else◌, List, [], ◌∷◌, length, take, sum_by}
 use Rattle.job_values.specs.declared.run.CallbackItem.{CallbackItem}
-use Rattle.callback_spool.specs.declared.batch.TheConstants.{BATCH_ITEMS, BATCH_BYTES}
+use Rattle.job_values.specs.declared.limits.TheConstants.{BATCH_ITEMS, BATCH_BYTES}
 
 -- how many of these items go on into a batch that has so many items and bytes of text: as long as both stay within their limits
 abbrev pub fitting : ℕ → ℕ → List CallbackItem → ℕ

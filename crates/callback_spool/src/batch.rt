@@ -4,13 +4,8 @@ ghost use Rattle.std.specs.VecDeque.{deque_len, deque_capacity};
 ghost use Rattle.callback_spool.specs.Batches.{fitting, batch_len};
 
 use job_values::CallbackItem;
+use job_values::limits::{BATCH_BYTES, BATCH_ITEMS};
 use std::collections::VecDeque;
-
-/// The most items of a batch.
-pub const BATCH_ITEMS: usize = 1_000;
-
-/// The most bytes of result text of a batch.
-pub const BATCH_BYTES: usize = 131_072;
 
 /// How many of these items the next batch takes: the longest prefix within both limits.
 pub fn fitting_items(items: &VecDeque<CallbackItem>) -> usize

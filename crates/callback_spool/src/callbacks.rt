@@ -22,7 +22,7 @@ pub enum CallbackRefusal {
 
 /// The results of an executor, as three lists: those that wait, those of the batch that is out, and those that are
 /// spooled. Each list always has room for the items of all three.
-#[derive(Debug, Drop)]
+#[derive(Drop)]
 pub struct Callbacks {
     waiting: VecDeque<CallbackItem>,
     batch: VecDeque<CallbackItem>,
@@ -75,15 +75,9 @@ impl Callbacks {
             .and_then(|sum| sum.checked_add(self.spooled.len()))
             .and_then(|sum| sum.checked_add(count))
             .ok_or(NoMemory)?;
-        self.waiting
-            .reserve(items - self.waiting.len())
-            .map_err(|_| NoMemory)?;
-        self.batch
-            .reserve(items - self.batch.len())
-            .map_err(|_| NoMemory)?;
-        self.spooled
-            .reserve(items - self.spooled.len())
-            .map_err(|_| NoMemory)?;
+        self.waiting.reserve(items - self.waiting.len())?;
+        self.batch.reserve(items - self.batch.len())?;
+        self.spooled.reserve(items - self.spooled.len())?;
         Ok(())
     }
 
@@ -119,7 +113,7 @@ impl Callbacks {
         &self.spooled
     }
 
-    /// Takes the longest prefix of the waiting items that has at most 1,000 items and 131,072 bytes of text. It takes no memory.
+    /// Takes the longest prefix of the waiting items within the limits of items and of bytes of text. It takes no memory.
     pub fn take_batch(&mut self) -> Result<(), CallbackRefusal>
         ensures result { result ≡ taken_answer self.old.waiting self.old.batch }
         ensures err { OnErr result (self.new ≡ self.old) }

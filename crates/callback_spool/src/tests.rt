@@ -1,4 +1,4 @@
-//! Each call of the results once, with its answer.
+//! The calls of the results, with their answers.
 
 use super::{CallbackRefusal, Callbacks};
 use job_values::{CallbackItem, LogId, LogMoment, ResultText, Text};
@@ -33,25 +33,16 @@ fn sizes(callbacks: &Callbacks) -> (usize, usize, usize) {
 }
 
 #[test]
-fn goes_out_and_is_released(rt: HostRuntime) -> Result<(), Fail> {
+fn goes_out_and_comes_back(rt: HostRuntime) -> Result<(), Fail> {
     let mut callbacks = two_items(rt.alloc())?;
     assert_eq!(rt; callbacks.ack(), Err(CallbackRefusal::NoBatch));
     assert_eq!(rt; callbacks.take_batch(), Ok(()));
     assert_eq!(rt; callbacks.take_batch(), Err(CallbackRefusal::BatchOut));
-    assert_eq!(rt; sizes(&callbacks), (0, 2, 0));
-    assert_eq!(rt; callbacks.ack(), Ok(()));
-    assert_eq!(rt; callbacks.take_batch(), Err(CallbackRefusal::Nothing));
-    Ok(())
-}
-
-#[test]
-fn fails_and_comes_back(rt: HostRuntime) -> Result<(), Fail> {
-    let mut callbacks = two_items(rt.alloc())?;
-    assert_eq!(rt; callbacks.fail_to(false), Err(CallbackRefusal::NoBatch));
-    assert_eq!(rt; callbacks.take_batch(), Ok(()));
     assert_eq!(rt; callbacks.fail_to(true), Ok(()));
     assert_eq!(rt; sizes(&callbacks), (0, 0, 2));
     assert_eq!(rt; callbacks.reload(), 2);
-    assert_eq!(rt; sizes(&callbacks), (2, 0, 0));
+    assert_eq!(rt; callbacks.take_batch(), Ok(()));
+    assert_eq!(rt; callbacks.ack(), Ok(()));
+    assert_eq!(rt; callbacks.take_batch(), Err(CallbackRefusal::Nothing));
     Ok(())
 }

@@ -1,8 +1,8 @@
 -- What is counted over the admins.
-use Rattle.std.proofs.Common.{◌≡◌, ℕ, suc, ◌*◌, ◌≤◌, List, [], ◌∷◌, map, length, refl, sym, ap, ◌∙◌, arith}
+use Rattle.std.proofs.Common.{◌≡◌, ℕ, suc, ◌*◌, ◌≤◌, List, [], ◌∷◌, map, length, length-append, refl, sym, ap, ◌∙◌, arith}
 use Rattle.std.specs.Prelude.{sum, sum_by, count_by}
 use Rattle.std.proofs.lemmas.List.Sums.{sum_by-cons, sum-map}
-use Rattle.job_values.specs.declared.job.Report.{Report}
+use Rattle.job_events.specs.declared.report.Report.{Report}
 use Rattle.time_ring.specs.Ring.{Ring, ticket_count}
 use Rattle.trigger_pool.specs.Pool.{PoolState, Queues}
 use Rattle.cluster_history.specs.History.{History}
@@ -10,16 +10,13 @@ use Rattle.cluster_history.specs.Jobs.{jobs_of}
 use Rattle.cluster_history.specs.Nodes.{admins}
 use Rattle.cluster_history.specs.Replies.{counted_to}
 use Rattle.cluster_history.specs.Tickets.{waiting, waiting_at}
-use Rattle.cluster_history.specs.Logs.{logs_of, is_settled, is_failed}
+use Rattle.cluster_history.specs.Logs.{logs_of}
+use Rattle.cluster_history.specs.Settling.{is_settled, is_failed}
 use Rattle.cluster_history.specs.Runs.{waiting_in, queued_in, counted}
-use Rattle.cluster_core.specs.Kept.{pools_at}
-use Rattle.cluster_core.specs.Stands.{ring_of, pools_of}
-use Rattle.cluster_core.proofs.AdminLemmas.{map-same}
-use Rattle.cluster_core.proofs.RingLemmas.{ring-count}
-
-pub map-mapped : {X Y Z : Type 0} (f : Y → Z) (g : X → Y) (xs : List X) → map f (map g xs) ≡ map (λ x. f (g x)) xs
-map-mapped f g [] = refl
-map-mapped f g (x ∷ xs) = ap (λ ys. f (g x) ∷ ys) (map-mapped f g xs)
+use Rattle.cluster_plan.specs.Kept.{pools_at, logs_in, IsWithinLimits}
+use Rattle.cluster_plan.specs.Stands.{ring_of, queues_of}
+use Rattle.cluster_plan.proofs.AdminLemmas.{map-same, map-mapped}
+use Rattle.cluster_plan.proofs.RingLemmas.{ring-count}
 
 -- a sum over rows is the sum of what is said of each
 sum-mapped : {X Y : Type 0} (f : Y → ℕ) (g : X → Y) (xs : List X) → sum_by (λ (x : X). f (g x)) xs ≡ sum (map f (map g xs))
@@ -32,18 +29,20 @@ waiting-counted rings h stands =
     ∙ ap sum (map-mapped ticket_count (ring_of h) admins ∙ map-same (λ a. ticket_count (ring_of h a)) (waiting_at h) (λ a. ring-count (waiting h) a) admins)
 
 -- the logs in all pools
-pub queued-counted : (pools : List PoolState) (h : History) → map (λ (p : PoolState). p.kept) pools ≡ map (pools_of h) admins → sum_by (λ (p : PoolState). length p.kept.fast) pools ≡ queued_in h
+pub queued-counted : (pools : List PoolState) (h : History) → map (λ (p : PoolState). p.kept) pools ≡ map (queues_of h) admins → sum_by (λ (p : PoolState). length (logs_in p.kept)) pools ≡ queued_in h
 queued-counted pools h stands =
-    sum-mapped (λ (q : Queues). length q.fast) (λ (p : PoolState). p.kept) pools ∙ ap (λ queues. sum (map (λ (q : Queues). length q.fast) queues)) stands
-    ∙ ap sum (map-mapped (λ (q : Queues). length q.fast) (pools_of h) admins)
+    sum-mapped (λ (q : Queues). length (logs_in q)) (λ (p : PoolState). p.kept) pools ∙ ap (λ queues. sum (map (λ (q : Queues). length (logs_in q)) queues)) stands
+    ∙ ap sum (map-mapped (λ (q : Queues). length (logs_in q)) (queues_of h) admins)
 
 -- no pool has more logs than it takes, so that all have few
-pub queued-few : (pools : List PoolState) → ((a : ℕ) → length (pools_at (map (λ (p : PoolState). p.kept) pools) a).fast ≤ 1000) → sum_by (λ (p : PoolState). length p.kept.fast) pools ≤ 1000 * length pools
+pub queued-few : (pools : List PoolState) → ((a : ℕ) → IsWithinLimits (pools_at (map (λ (p : PoolState). p.kept) pools) a)) → sum_by (λ (p : PoolState). length (logs_in p.kept)) pools ≤ 3000 * length pools
 queued-few [] limits = omega arith
 queued-few (pool ∷ pools) limits =
-    let rest : sum_by (λ (p : PoolState). length p.kept.fast) pools ≤ 1000 * length pools = queued-few pools (λ a. limits (suc a)) in
-    let first : length pool.kept.fast ≤ 1000 = limits 0 in
-    omega (arith, sum_by-cons (λ (p : PoolState). length p.kept.fast) pool pools)
+    let rest : sum_by (λ (p : PoolState). length (logs_in p.kept)) pools ≤ 3000 * length pools = queued-few pools (λ a. limits (suc a)) in
+    let fast : length pool.kept.fast ≤ 1000 = (limits 0).fast in
+    let slow : length pool.kept.slow ≤ 2000 = (limits 0).slow in
+    let first : length (logs_in pool.kept) ≤ 3000 = omega (arith, length-append pool.kept.fast pool.kept.slow) in
+    omega (arith, sum_by-cons (λ (p : PoolState). length (logs_in p.kept)) pool pools)
 
 -- what is counted, by its parts
 pub counted-by : (h : History) (jobs logs settled failed waiting queued : ℕ) → jobs ≡ length (jobs_of h) → logs ≡ length (logs_of h) → settled ≡ count_by is_settled (logs_of h) → failed ≡ count_by is_failed (logs_of h) → waiting ≡ counted_to (waiting_in h) → queued ≡ queued_in h

@@ -9,11 +9,15 @@ use Rattle.time_ring.specs.declared.ticket.Ticket.{Ticket}
 use Rattle.time_ring.specs.Ring.{Ring, no_tickets}
 use Rattle.trigger_pool.specs.Pool.{PoolState, Queues, no_logs}
 use Rattle.cluster_history.specs.declared.scan.Scan.{Scan}
+use Rattle.cluster_history.specs.declared.settings.Settings.{Settings}
 use Rattle.cluster_history.specs.Pages.{unless_owner}
-use Rattle.cluster_core.specs.declared.prepared.NodeChange.TheVariants as node
-use Rattle.cluster_core.specs.declared.prepared.Prepared.{Prepared}
-use Rattle.cluster_core.specs.Kept.{Kept, ClusterState, kept_of, ring_at, pools_at}
-use Rattle.cluster_core.specs.Commits.{node_changed, committed, pool_room, ring_room}
+use Rattle.cluster_plan.specs.declared.prepared.NodeChange.TheVariants as node
+use Rattle.cluster_plan.specs.Prepared.{PreparedEvent}
+use Rattle.cluster_plan.specs.Kept.{Kept, ring_at, pools_at}
+use Rattle.cluster_core.specs.Kept.{ClusterState, kept_of}
+use Rattle.cluster_plan.specs.Commits.{node_changed, committed}
+use Rattle.cluster_core.specs.Room.{pool_room, ring_room}
+use Rattle.cluster_plan.proofs.ReadLemmas.{slots-read, pools-read}
 
 -- a ring in the place of one
 pub slots-set : (rings : List Ring) (place : ℕ) (ring : Ring) (slots : List (List Ticket)) → ring.slots ≡ slots → map (λ (r : Ring). r.slots) (set rings place ring) ≡ set (map (λ (r : Ring). r.slots) rings) place slots
@@ -27,6 +31,11 @@ pools-set pools place pool kept is = map-set (λ (p : PoolState). p.kept) pools 
 pub kept-by : (state : ClusterState) (running more : List Bool) (scan next : Option Scan) (rings : List Ring) (slots : List (List (List Ticket))) (pools : List PoolState) (queues : List Queues) → running ≡ more → scan ≡ next → map (λ (r : Ring). r.slots) rings ≡ slots → map (λ (p : PoolState). p.kept) pools ≡ queues
     → kept_of (record state { running = running; scan = scan; rings = rings; pools = pools }) ≡ record (kept_of state) { running = more; scan = next; rings = slots; pools = queues }
 kept-by state running more scan next rings slots pools queues a b d e = (cc)
+
+-- what is lent, by its parts
+pub kept-lent : (state : ClusterState) (settings : Settings) (running : List Bool) (records : RecordsState) (scan : Option Scan) (rings : List Ring) (pools : List PoolState) → settings ≡ state.settings → running ≡ state.running → records ≡ state.records → scan ≡ state.scan → rings ≡ state.rings → pools ≡ state.pools
+    → kept_of (record { settings = settings; running = running; records = records; scan = scan; rings = rings; pools = pools }) ≡ kept_of state
+kept-lent state settings running records scan rings pools a b d e f g = (cc)
 
 -- an admin stops
 pub kept-stopped : (state : ClusterState) (admin place : ℕ) (scan : Option Scan) (ring : Ring) (pool : PoolState) → place ≡ admin → scan ≡ unless_owner admin state.scan → ring.slots ≡ no_tickets → pool.kept ≡ no_logs
@@ -51,16 +60,6 @@ kept-stopped-all state running rings pools stopped empty none =
     (empty ∙ ap (λ n. replicate n no_tickets) (sym (length-map state.rings (λ (r : Ring). r.slots))) ∙ all-same (map (λ (r : Ring). r.slots) state.rings) no_tickets)
     (none ∙ ap (λ n. replicate n no_logs) (sym (length-map state.pools (λ (p : PoolState). p.kept))) ∙ all-same (map (λ (p : PoolState). p.kept) state.pools) no_logs)
 
--- the ring at a place, as it is kept
-pub slots-read : (rings : List Ring) (admin place : ℕ) (ring : Ring) → place ≡ admin → admin < length rings → ring ≡ get_or rings place ring → ring.slots ≡ ring_at (map (λ (r : Ring). r.slots) rings) admin
-slots-read rings admin place ring here below is =
-    ap (λ (r : Ring). r.slots) (is ∙ ap (λ n. get_or rings n ring) here) ∙ sym (get_or-map (λ (r : Ring). r.slots) rings admin ring [] below)
-
--- the pools at a place, as they are kept
-pub pools-read : (pools : List PoolState) (admin place : ℕ) (pool : PoolState) → place ≡ admin → admin < length pools → pool ≡ get_or pools place pool → pool.kept ≡ pools_at (map (λ (p : PoolState). p.kept) pools) admin
-pools-read pools admin place pool here below is =
-    ap (λ (p : PoolState). p.kept) (is ∙ ap (λ n. get_or pools n pool) here) ∙ sym (get_or-map (λ (p : PoolState). p.kept) pools admin pool no_logs below)
-
 -- a ring at a place, made from the one that was there
 pub slots-changed : (rings : List Ring) (admin place : ℕ) (old new : Ring) (f : List (List Ticket) → List (List Ticket)) → place ≡ admin → admin < length rings → old ≡ get_or rings place old → new.slots ≡ f old.slots
     → map (λ (r : Ring). r.slots) (set rings place new) ≡ set (map (λ (r : Ring). r.slots) rings) admin (f (ring_at (map (λ (r : Ring). r.slots) rings) admin))
@@ -76,7 +75,7 @@ pools-changed pools admin place old new f here below is made =
     ∙ ap (λ n. set (map (λ (p : PoolState). p.kept) pools) n (f (pools_at (map (λ (p : PoolState). p.kept) pools) admin))) here
 
 -- a prepared event is done
-pub kept-committed : (old between : ClusterState) (records : RecordsState) (prepared : Prepared) → kept_of between ≡ node_changed prepared.node (kept_of old) → between.records ≡ old.records → records.kept ≡ applied_all between.records.kept prepared.changes
+pub kept-committed : (old between : ClusterState) (records : RecordsState) (prepared : PreparedEvent) → kept_of between ≡ node_changed prepared.node (kept_of old) → between.records ≡ old.records → records.kept ≡ applied_all between.records.kept prepared.changes
     → kept_of (record between { records = records }) ≡ committed (kept_of old) prepared
 kept-committed old between records prepared changed same applied =
     ap (λ (k : Kept). record k { tables = records.kept }) changed

@@ -6,54 +6,55 @@ use Rattle.std.proofs.lemmas.List.{get_or-set_same, get_or-set_other, length-set
 use Rattle.std.proofs.Math.ListN.{get_or-map}
 use Rattle.job_records.specs.Rules.{KeepsRules}
 use Rattle.job_records.specs.Tables.{Tables}
+use Rattle.job_values.specs.declared.limits.TheConstants.{FAST_LIMIT, SLOW_LIMIT, SLOW_ABOVE}
 use Rattle.job_values.specs.declared.words.PoolAnswer.TheVariants.{Fast, Slow, Full}
 use Rattle.time_ring.specs.declared.ticket.Ticket.{Ticket}
 use Rattle.trigger_pool.specs.Pool.{Queues, no_logs, with_log}
 use Rattle.trigger_pool.specs.Reports.{late_count}
-use Rattle.cluster_core.specs.declared.prepared.Entering.{Entering}
-use Rattle.cluster_core.specs.declared.prepared.NodeChange.{NodeChange}
-use Rattle.cluster_core.specs.declared.prepared.NodeChange.TheVariants as node
-use Rattle.cluster_core.specs.Kept.{Kept, IsSound, pools_at}
-use Rattle.cluster_core.specs.Commits.{node_changed, entered, pools_with, pools_after, rings_with}
+use Rattle.cluster_plan.specs.declared.prepared.Entering.{Entering}
+use Rattle.cluster_plan.specs.declared.prepared.NodeChange.{NodeChange}
+use Rattle.cluster_plan.specs.declared.prepared.NodeChange.TheVariants as node
+use Rattle.cluster_plan.specs.Kept.{Kept, IsSound, IsWithinLimits, pools_at}
+use Rattle.cluster_plan.specs.Commits.{node_changed, entered, pools_with, queues_after, rings_with}
 
--- a log goes into a fast pool only below its limit
-fast-added : (slow slow_room fast_room : Bool) (pools : Queues) (log : ℕ) → (fast_room ≡ true → length pools.fast < 1000) → length pools.fast ≤ 1000
-    → length (with_log pools log (cond slow (cond slow_room Slow Full) (cond fast_room Fast Full))).fast ≤ 1000
-fast-added false slow_room true pools log room few = let h : length pools.fast < 1000 = room refl in rw length-append (omega arith)
-fast-added false slow_room false pools log room few = few
-fast-added true true fast_room pools log room few = few
-fast-added true false fast_room pools log room few = few
+-- a log goes into a pool only below its limit
+added-few : (slow slow_room fast_room : Bool) (queues : Queues) (log : ℕ) → (fast_room ≡ true → length queues.fast < FAST_LIMIT) → (slow_room ≡ true → length queues.slow < SLOW_LIMIT) → IsWithinLimits queues
+    → IsWithinLimits (with_log queues log (cond slow (cond slow_room Slow Full) (cond fast_room Fast Full)))
+added-few false slow_room true queues log room other few = let h : length queues.fast < 1000 = room refl in record { fast = rw length-append (omega arith); slow = few.slow }
+added-few false slow_room false queues log room other few = few
+added-few true true fast_room queues log other room few = let h : length queues.slow < 2000 = room refl in record { fast = few.fast; slow = rw length-append (omega arith) }
+added-few true false fast_room queues log other room few = few
 
 is-below : (n m : ℕ) → nat_lt n m ≡ true → n < m
 is-below n m h = grind (arith, nat_tests)
 
--- no fast pool gets more logs than it takes
-entered-few : (pools : Queues) (logs : List Entering) → length pools.fast ≤ 1000 → length (entered pools logs).fast ≤ 1000
-entered-few pools [] few = few
-entered-few pools (entering ∷ logs) few =
-    entered-few (pools_with pools entering) logs
-    (fast-added (nat_lt 10 (late_count pools.counts entering.job)) (nat_lt (length pools.slow) 2000) (nat_lt (length pools.fast) 1000) pools entering.log (is-below (length pools.fast) 1000) few)
+-- no pool gets more logs than it takes
+entered-few : (queues : Queues) (logs : List Entering) → IsWithinLimits queues → IsWithinLimits (entered queues logs)
+entered-few queues [] few = few
+entered-few queues (entering ∷ logs) few =
+    entered-few (pools_with queues entering) logs
+    (added-few (nat_lt SLOW_ABOVE (late_count queues.counts entering.job)) (nat_lt (length queues.slow) SLOW_LIMIT) (nat_lt (length queues.fast) FAST_LIMIT) queues entering.log (is-below (length queues.fast) FAST_LIMIT) (is-below (length queues.slow) SLOW_LIMIT) few)
+
+none-few : IsWithinLimits no_logs
+none-few = record { fast = omega arith; slow = omega arith }
 
 -- the pools of one admin are others
-limits-set : (pools : List Queues) (place : ℕ) (q : Queues) → length q.fast ≤ 1000 → ((a : ℕ) → length (pools_at pools a).fast ≤ 1000) → (a : ℕ) → length (pools_at (set pools place q) a).fast ≤ 1000
+limits-set : (pools : List Queues) (place : ℕ) (q : Queues) → IsWithinLimits q → ((a : ℕ) → IsWithinLimits (pools_at pools a)) → (a : ℕ) → IsWithinLimits (pools_at (set pools place q) a)
 limits-set pools place q few limits a =
-    let P : Queues → Type 0 = λ queues. length queues.fast ≤ 1000 in
     ⊎_elim (λ same.
-    ⊎_elim (λ within. subst P (sym (ap (λ n. pools_at (set pools place q) n) same ∙ get_or-set_same pools place q no_logs within)) few)
-    (λ past. subst P (sym (get_or_past (set pools place q) a no_logs (omega (arith, length-set pools place q)))) (omega arith))
+    ⊎_elim (λ within. subst IsWithinLimits (sym (ap (λ n. pools_at (set pools place q) n) same ∙ get_or-set_same pools place q no_logs within)) few)
+    (λ past. subst IsWithinLimits (sym (get_or_past (set pools place q) a no_logs (omega (arith, length-set pools place q)))) none-few)
     (cases_lt place (length pools)))
-    (λ other. subst P (sym (get_or-set_other pools place a q no_logs other)) (limits a))
+    (λ other. subst IsWithinLimits (sym (get_or-set_other pools place a q no_logs other)) (limits a))
     (cases_eq a place)
 
 -- logs enter the pools of an admin
-limits-after : (pools : List Queues) (admin : ℕ) (logs : List Entering) → ((a : ℕ) → length (pools_at pools a).fast ≤ 1000) → (a : ℕ) → length (pools_at (pools_after admin logs pools) a).fast ≤ 1000
+limits-after : (pools : List Queues) (admin : ℕ) (logs : List Entering) → ((a : ℕ) → IsWithinLimits (pools_at pools a)) → (a : ℕ) → IsWithinLimits (pools_at (queues_after admin logs pools) a)
 limits-after pools admin logs limits = limits-set pools admin (entered (pools_at pools admin) logs) (entered-few (pools_at pools admin) logs (limits admin)) limits
 
 -- no pool has a log
-limits-none : (pools : List Queues) (a : ℕ) → length (pools_at (map (λ (q : Queues). no_logs) pools) a).fast ≤ 1000
-limits-none pools a =
-    let P : Queues → Type 0 = λ queues. length queues.fast ≤ 1000 in
-    subst P (sym (get_or-map (λ (q : Queues). no_logs) pools a no_logs)) (omega arith)
+pub limits-none : (pools : List Queues) (a : ℕ) → IsWithinLimits (pools_at (map (λ (q : Queues). no_logs) pools) a)
+limits-none pools a = subst IsWithinLimits (sym (get_or-map (λ (q : Queues). no_logs) pools a no_logs)) none-few
 
 length-put : (admin : ℕ) (put : Option Ticket) (rings : List (List (List Ticket))) → length (rings_with admin put rings) ≡ length rings
 length-put admin None rings = refl
@@ -74,7 +75,7 @@ sound-changed kept (node.Stops admin) sound = record {
   rings = length-set kept.rings admin _ ∙ sound.rings;
   pools = length-set kept.pools admin no_logs ∙ sound.pools;
   rules = sound.rules;
-  limits = limits-set kept.pools admin no_logs (omega arith) sound.limits;
+  limits = limits-set kept.pools admin no_logs none-few sound.limits;
 }
 sound-changed kept node.StopsAll sound = record {
   running = length-map kept.running _ ∙ sound.running;

@@ -1,10 +1,4 @@
 pub mod Kept
-pub mod Commits
 pub mod Stands
+pub mod Room
 pub mod Plans
-pub mod Steps
-pub mod Openings
-pub mod Firing
-pub mod Turning
-pub mod Edits
-pub mod Endings

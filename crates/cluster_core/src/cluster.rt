@@ -1,14 +1,16 @@
 //! The cluster: what it keeps, and the calls that change it.
 ghost use Rattle.std.specs.Prelude.{◌≡◌, IfOk, OnErr, replicate, false};
-ghost use Rattle.cluster_history.specs.declared.limits.TheConstants.{ADMINS};
+ghost use Rattle.job_values.specs.declared.limits.TheConstants.{ADMINS};
 
+use super::plan::plan_event;
 use super::pools::no_pools;
-use super::prepared::Prepared;
 use super::rings::empty_rings;
-use cluster_history::limits::ADMINS;
 use cluster_history::{Scan, Settings};
+use cluster_plan::{Prepared, Seen};
+use job_events::{ClusterEvent, ClusterReply};
 use job_records::Records;
-use job_values::{AdminNo, ClusterEvent, ClusterReply, NoMemory};
+use job_values::limits::ADMINS;
+use job_values::{AdminNo, NoMemory};
 use std::alloc::Global;
 use std::marker::Model;
 use time_ring::TimeRing;
@@ -28,7 +30,8 @@ pub struct Cluster {
 }
 
 impl Model for Cluster {
-    ghost use Rattle.cluster_core.specs.Kept.{ClusterState, kept_of, IsSound};
+    ghost use Rattle.cluster_core.specs.Kept.{ClusterState, kept_of};
+    ghost use Rattle.cluster_plan.specs.Kept.{IsSound};
 
     ghost Value = { ClusterState };
 
@@ -47,10 +50,15 @@ fn none_running(alloc: Global) -> Result<Vec<bool>, NoMemory>
 impl Cluster {
     ghost use Rattle.cluster_history.specs.History.{History, Begin, accepted, empty_opening};
     ghost use Rattle.cluster_history.specs.Nodes.{runs};
+    ghost use Rattle.cluster_plan.specs.Kept.{IsSound};
     ghost use Rattle.cluster_core.specs.Kept.{kept_of};
-    ghost use Rattle.cluster_core.specs.Commits.{committed, CanCommit};
-    ghost use Rattle.cluster_core.specs.Plans.{IsPlanned, IsPrepared};
-    ghost use Rattle.cluster_core.specs.Stands.{StandsFor, Answers, owner_after, records_of, ring_of};
+    ghost use Rattle.cluster_plan.specs.Commits.{committed};
+    ghost use Rattle.cluster_core.specs.Room.{CanCommit};
+    ghost use Rattle.cluster_plan.specs.Plans.{IsPlanned};
+    ghost use Rattle.cluster_core.specs.Plans.{IsPrepared};
+    ghost use Rattle.cluster_core.specs.Stands.{StandsFor, Answers, owner_after};
+    ghost use Rattle.cluster_history.specs.Records.{records_of};
+    ghost use Rattle.cluster_plan.specs.Stands.{ring_of};
 
     /// A cluster without rows, in which no admin runs.
     pub fn new(alloc: Global, settings: Settings) -> Result<Cluster, NoMemory>
@@ -70,34 +78,33 @@ impl Cluster {
         })
     }
 
+    /// What is kept, lent to the plans.
+    fn seen(&self) -> Seen<'_>
+        ensures settings { result.settings ≡ self.now.settings }
+        ensures running { result.running.now.items ≡ self.now.running }
+        ensures rows { result.records.now ≡ self.now.records }
+        ensures scan { result.scan.now ≡ self.now.scan }
+        ensures rings { result.rings.now.items ≡ self.now.rings }
+        ensures pools { result.pools.now.items ≡ self.now.pools }
+        ensures sound { IsSound (kept_of self.now) }
+    {
+        Seen {
+            alloc: self.alloc,
+            settings: self.settings,
+            running: &self.running,
+            records: &self.records,
+            scan: &self.scan,
+            rings: &self.rings,
+            pools: &self.pools,
+        }
+    }
+
     /// What an event will answer and change.
     fn plan(&self, event: &ClusterEvent) -> Result<Prepared, NoMemory>
         ensures { IfOk result (IsPlanned (kept_of self.now) event.now) }
     {
-        match event {
-            ClusterEvent::NodeStart(admin) => Ok(self.plan_start(*admin)),
-            ClusterEvent::NodeStop(admin) => self.plan_stop(*admin),
-            ClusterEvent::NodeAsk(admin) => Ok(self.plan_ask(*admin)),
-            ClusterEvent::AddGroup(app, kind, addresses) => {
-                self.plan_add_group(app, *kind, addresses)
-            }
-            ClusterEvent::SetGroup(group, kind, addresses) => {
-                self.plan_set_group(*group, *kind, addresses)
-            }
-            ClusterEvent::AddJob(spec) => self.plan_add_job(spec),
-            ClusterEvent::UpdateJob(at, job, spec) => self.plan_update_job(*at, *job, spec),
-            ClusterEvent::StartJob(at, job) => self.plan_start_job(*at, *job),
-            ClusterEvent::StopJob(job) => self.plan_stop_job(*job),
-            ClusterEvent::RemoveJob(job) => self.plan_remove_job(*job),
-            ClusterEvent::TriggerJob(admin, at, job, param) => {
-                self.plan_fire(*admin, *at, *job, param)
-            }
-            ClusterEvent::ScanBegin(admin, at) => self.plan_scan(*admin, *at),
-            ClusterEvent::ScanStep(admin) => self.plan_step(*admin),
-            ClusterEvent::Turn(admin, at) => self.plan_turn(*admin, *at),
-            ClusterEvent::ReadLog(log) => self.plan_read_log(*log),
-            ClusterEvent::Reopen => self.plan_reopen(),
-        }
+        let seen = self.seen();
+        plan_event(&seen, event)
     }
 
     /// Decides an event, and takes all memory that it needs. It changes nothing that is kept,
@@ -118,11 +125,7 @@ impl Cluster {
         ensures kept { kept_of self.new ≡ committed (kept_of self.old) prepared }
         ensures answers { (event : ClusterEvent) → IsPrepared self.old event prepared → Answers self.old event result self.new }
     {
-        let Prepared {
-            reply,
-            changes,
-            node,
-        } = prepared;
+        let (reply, changes, node) = prepared.into_parts();
         self.change_node(node);
         self.records.apply(changes);
         reply

@@ -1,29 +1,17 @@
 //! What a prepared event changes beside the rows.
 ghost use Rattle.std.specs.Prelude.{◌≡◌, length, replicate, false};
-ghost use Rattle.cluster_history.specs.Pages.{unless_owner};
-ghost use Rattle.cluster_core.specs.declared.prepared.NodeChange.TheVariants as node;
+ghost use Rattle.cluster_plan.specs.declared.prepared.NodeChange.TheVariants as node;
 ghost use Rattle.cluster_core.specs.Kept.{kept_of};
-ghost use Rattle.cluster_core.specs.Commits.{node_changed, HasRoomFor};
+ghost use Rattle.cluster_plan.specs.Commits.{node_changed};
+ghost use Rattle.cluster_core.specs.Room.{HasRoomFor};
 
 use super::cluster::Cluster;
-use super::pages::step_on;
 use super::pools::{empty_pools, enter_at};
-use super::prepared::NodeChange;
 use super::rings::{clear_rings, put_at, turn_at};
-use cluster_history::Scan;
+use super::steps::{close_of, step_on};
+use cluster_plan::NodeChange;
 use job_values::AdminNo;
 use trigger_pool::Pools;
-
-/// A stop of its owner ends the scan.
-fn close_of(scan: &mut Option<Scan>, admin: AdminNo)
-    ensures { scan.new ≡ unless_owner admin scan.old }
-{
-    if let Some(open) = scan {
-        if open.owner == admin {
-            *scan = None;
-        }
-    }
-}
 
 /// No admin runs.
 fn stop_running(running: &mut Vec<bool>)

@@ -2,14 +2,16 @@
 ghost use Rattle.std.specs.Prelude.{◌≡◌, ◌<◌, ◌^◌, length, min, sum_by, count_by};
 ghost use Rattle.time_ring.specs.Ring.{ticket_count};
 ghost use Rattle.cluster_history.specs.History.{History};
-ghost use Rattle.cluster_history.specs.Logs.{is_failed, is_settled};
+ghost use Rattle.cluster_history.specs.Settling.{is_failed, is_settled};
 ghost use Rattle.cluster_history.specs.Runs.{report_of};
+ghost use Rattle.cluster_plan.specs.Kept.{logs_in};
 ghost use Rattle.cluster_core.specs.Stands.{StandsFor};
 
 use super::cluster::Cluster;
-use cluster_history::limits::SUCCESS;
+use job_events::Report;
 use job_records::Log;
-use job_values::{PoolKind, Report};
+use job_values::PoolKind;
+use job_values::limits::SUCCESS;
 use time_ring::TimeRing;
 use trigger_pool::Pools;
 
@@ -53,14 +55,24 @@ fn count_waiting(rings: &Vec<TimeRing>) -> u64
     waiting
 }
 
+/// How many logs are in the pools of an admin.
+fn count_logs(pools: &Pools) -> u64
+    requires { length (logs_in pools.now.kept) < 2 ^ 64 }
+    ensures { result ≡ length (logs_in pools.now.kept) }
+{
+    let fast = pools.length(PoolKind::Fast) as u64;
+    let slow = pools.length(PoolKind::Slow) as u64;
+    fast + slow
+}
+
 /// How many logs are in all pools.
 fn count_queued(pools: &Vec<Pools>) -> u64
-    requires { sum_by (λ pool. length pool.kept.fast) pools.now.items < 2 ^ 64 }
-    ensures { result ≡ sum_by (λ pool. length pool.kept.fast) pools.now.items }
+    requires { sum_by (λ pool. length (logs_in pool.kept)) pools.now.items < 2 ^ 64 }
+    ensures { result ≡ sum_by (λ pool. length (logs_in pool.kept)) pools.now.items }
 {
     let mut queued = 0;
     for pool in pools {
-        queued += pool.length(PoolKind::Fast) as u64;
+        queued += count_logs(pool);
     }
     queued
 }

@@ -2,33 +2,14 @@
 //! cluster defines. An event is prepared, which takes all memory that it needs, and then committed.
 #![tactic(auto)]
 
-mod changes;
 pub mod cluster;
 mod commit;
 mod counts;
-mod edits;
-mod endings;
-mod fires;
-mod firing;
-mod groups;
-mod ids;
-mod jobs;
-mod looks;
-mod nodes;
-mod opening;
-mod pages;
+mod plan;
 mod pools;
-pub mod prepared;
 mod rings;
 mod room;
-mod scans;
-mod shown;
-mod turns;
+mod steps;
 
 pub use cluster::Cluster;
-pub use prepared::{Entering, NodeChange, Prepared};
-
-#[cfg(test)]
-mod test_lines;
-#[cfg(test)]
-mod tests;
+pub use cluster_plan::{Entering, NodeChange, Prepared};

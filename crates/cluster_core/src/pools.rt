@@ -1,11 +1,12 @@
 //! The pools of the admins.
 ghost use Rattle.std.specs.Prelude.{◌≡◌, ◌≤◌, length, map, replicate, IfOk, OnOk};
-ghost use Rattle.cluster_history.specs.declared.limits.TheConstants.{ADMINS};
+ghost use Rattle.job_values.specs.declared.limits.TheConstants.{ADMINS};
 ghost use Rattle.trigger_pool.specs.Pool.{no_logs};
-ghost use Rattle.cluster_core.specs.Commits.{entered, pools_after, pool_room};
+ghost use Rattle.cluster_plan.specs.Commits.{entered, queues_after};
+ghost use Rattle.cluster_core.specs.Room.{pool_room};
 
-use super::prepared::Entering;
-use cluster_history::limits::ADMINS;
+use cluster_plan::Entering;
+use job_values::limits::ADMINS;
 use job_values::{AdminNo, NoMemory, Seq};
 use std::alloc::Global;
 use trigger_pool::Pools;
@@ -45,7 +46,7 @@ fn enter(pools: &mut Pools, logs: &Seq<Entering>)
 pub fn enter_at(pools: &mut Vec<Pools>, admin: AdminNo, logs: &Seq<Entering>)
     requires admins { length pools.old.items ≡ ADMINS }
     requires room { length logs.now ≤ pool_room pools.old.items admin }
-    ensures { map (λ pool. pool.kept) pools.new.items ≡ pools_after admin logs.now (map (λ pool. pool.kept) pools.old.items) }
+    ensures { map (λ pool. pool.kept) pools.new.items ≡ queues_after admin logs.now (map (λ pool. pool.kept) pools.old.items) }
 {
     enter(&mut pools[admin.get() as usize], logs);
 }

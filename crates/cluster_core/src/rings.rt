@@ -1,10 +1,11 @@
 //! The rings of the admins.
 ghost use Rattle.std.specs.Prelude.{◌≡◌, length, map, replicate, IfOk, OnOk};
-ghost use Rattle.cluster_history.specs.declared.limits.TheConstants.{ADMINS};
+ghost use Rattle.job_values.specs.declared.limits.TheConstants.{ADMINS};
 ghost use Rattle.time_ring.specs.Ring.{no_tickets};
-ghost use Rattle.cluster_core.specs.Commits.{rings_with, rings_turned, ring_room, HasRoomToPut};
+ghost use Rattle.cluster_plan.specs.Commits.{rings_with, rings_turned};
+ghost use Rattle.cluster_core.specs.Room.{ring_room, HasRoomToPut};
 
-use cluster_history::limits::ADMINS;
+use job_values::limits::ADMINS;
 use job_values::{AdminNo, NoMemory};
 use std::alloc::Global;
 use time_ring::{Ticket, TimeRing};

@@ -2,12 +2,12 @@
 ghost use Rattle.std.specs.Prelude.{◌≡◌, OnOk};
 ghost use Rattle.job_records.specs.Changes.{AreAllowed};
 ghost use Rattle.cluster_core.specs.Kept.{kept_of};
-ghost use Rattle.cluster_core.specs.Commits.{CanCommit};
+ghost use Rattle.cluster_core.specs.Room.{CanCommit};
 
 use super::cluster::Cluster;
 use super::pools::make_place;
-use super::prepared::{NodeChange, Prepared};
 use super::rings::reserve_at;
+use cluster_plan::{NodeChange, Prepared};
 use job_values::NoMemory;
 
 impl Cluster {
@@ -16,8 +16,8 @@ impl Cluster {
         ensures can { OnOk result (AreAllowed self.old.records.kept prepared.now.changes → CanCommit self.new prepared.now) }
         ensures same { kept_of self.new ≡ kept_of self.old }
     {
-        self.records.reserve(&prepared.changes)?;
-        match &prepared.node {
+        self.records.reserve(prepared.changes())?;
+        match prepared.node() {
             NodeChange::Steps(admin, put, logs) => {
                 reserve_at(&mut self.rings, *admin, put)?;
                 make_place(&mut self.pools, *admin, logs.len())

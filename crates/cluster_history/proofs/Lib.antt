@@ -1,8 +1,14 @@
+pub mod Places
 pub mod RowIds
-pub mod OpenRows
 pub mod Marks
+pub mod Counting
+pub mod Unsent
 pub mod OpenLogs
+pub mod FastPools
 pub mod Answered
 pub mod Running
+pub mod Stops
 pub mod Reopened
+pub mod Openings
+pub mod LegalRuns
 mod Rows

@@ -1,167 +1,165 @@
--- The open logs of an admin are those in its pool.
-use Rattle.std.proofs.Common.{◌≡◌, ℕ, zero, suc, ◌+◌, ◌<◌, ◌≤◌, List, [], ◌∷◌, ◌++◌, Bool, true, false, cond, eqb, ltb, ◌||◌, Option, length, get_or, map, refl, sym, ap, ◌∙◌, subst, arith, append-nil}
-use Rattle.std.specs.Prelude.{◌==◌, if◌then◌else◌}
-use Rattle.std.specs.List.{filter, list_any, concat, All, AllByRecursion, range_with_len}
+-- The logs of an admin that have no trigger code are those in its pools.
+use Rattle.std.proofs.Common.{◌≡◌, ℕ, ◌+◌, ◌<◌, ◌≤◌, List, [], ◌++◌, Bool, true, false, cond, eqb, ltb, leb, ◌&&◌, is_some, Option, Some, None, length, refl, sym, ap, ◌∙◌, subst, ⊎_elim, arith}
+use Rattle.std.proofs.lemmas.Bool.{cases_lt}
 use Rattle.std.proofs.lemmas.Bool.Decides.{nat_tests}
-use Rattle.std.proofs.lemmas.Bool.{false≢true}
-use Rattle.std.proofs.lemmas.List.{map-append, length-map}
-use Rattle.std.proofs.lemmas.List.Elements.{filter-append, All-from_recursion}
-use Rattle.std.proofs.lemmas.List.Sums.{length-filter}
-use Rattle.std.proofs.lemmas.List.Folds.{list_any_at}
-use Rattle.std.proofs.lemmas.List.FromFn.{get_or-range_with_len, length-range_with_len}
-use Rattle.job_values.specs.declared.cluster.ClusterEvent.TheVariants.{NodeStop, TriggerJob, ScanStep, Turn, Reopen}
-use Rattle.job_values.specs.declared.words.PoolAnswer.TheVariants.{Fast, Full}
-use Rattle.job_records.specs.declared.log.Log.{Log}
-use Rattle.job_records.specs.Rows.{IsRising}
-use Rattle.cluster_history.specs.declared.limits.TheConstants.{ADMINS, MOST_FAST}
+use Rattle.job_values.specs.declared.words.PoolKind.TheVariants.{Fast as FastPool, Slow as SlowPool}
+use Rattle.job_events.specs.declared.cluster.ClusterEvent.TheVariants.{NodeStop, ScanStep, Turn, TriggerJob, Reopen}
 use Rattle.cluster_history.specs.History.{History, Begin, After, opening_of}
-use Rattle.cluster_history.specs.Nodes.{admins}
 use Rattle.cluster_history.specs.Firings.{Shot, shots_stepped, shots_turned, shots_asked}
-use Rattle.cluster_history.specs.Logs.{placed_from, one_more, log_of, added_of, opener_after, opener_of, is_open_at, is_open_of, is_open_of_any, ended_where, ended_log, logs_of, last_log, queue_of, open_at}
+use Rattle.cluster_history.specs.Openings.{Pools, placed_from, rows_of, added_to, is_in}
+use Rattle.cluster_history.specs.Logs.{is_own, opener_after, opener_of, logs_of, last_log, queue_of, pools_of, placed_at}
 use Rattle.cluster_history.specs.Runs.{OpensWell}
+use Rattle.cluster_history.proofs.Counting.{times, count-append}
 use Rattle.cluster_history.proofs.RowIds.{logs_rise}
-use Rattle.cluster_history.proofs.OpenRows.{none-passes, same-pass, ended-closed, open-apart, old-open, new-open, if_own}
-use Rattle.cluster_history.proofs.Marks.{kept-none, has, AreLow, low-behind, low-more, marked, changed-marked, has-joined}
+use Rattle.cluster_history.proofs.Unsent.{unsent_in, unsent-append, unsent-new, added-apart, unsent-above, unsent-ended, unsent-ended_all}
 
-abbrev ids_in : List Log → List ℕ
-ids_in logs = map (λ log. log.id) logs
+-- what an admin has of an id, in its two pools
+abbrev pub Has : Option ℕ → ℕ → ℕ → ℕ → ℕ → Type 0
+Has opener a unsent fast slow = cond (is_own opener a) unsent 0 ≡ fast + slow
 
--- logs that an admin opens are open at it, and at no other
-open-own : (q : ℕ → List ℕ) (a admin last : ℕ) (shots : List Shot) (b : Bool) → eqb a admin ≡ b
-    → q a ++ if_own (eqb admin a) (added_of (placed_from last (length (q admin)) shots)) ≡ cond b (q a ++ added_of (placed_from last (length (q a)) shots)) (q a)
-open-own q a admin last shots true test =
-    let same : admin ≡ a = grind (arith, nat_tests) in
-    let own : eqb admin a ≡ true = grind (arith, nat_tests) in
-    ap (λ b. q a ++ if_own b (added_of (placed_from last (length (q admin)) shots))) own
-    ∙ ap (λ n. q a ++ added_of (placed_from last (length (q n)) shots)) same
-open-own q a admin last shots false test =
-    let own : eqb admin a ≡ false = grind (arith, nat_tests) in
-    ap (λ b. q a ++ if_own b (added_of (placed_from last (length (q admin)) shots))) own ∙ append-nil (q a)
+times-append : (n : ℕ) (xs ys : List ℕ) → times n (xs ++ ys) ≡ times n xs + times n ys
+times-append n xs ys = count-append (λ id. eqb id n) xs ys
 
-opened-behind : (f : ℕ → Option ℕ) (q : ℕ → List ℕ) (a admin last : ℕ) (logs : List Log) (shots : List Shot) → IsRising (λ log. log.id) 0 logs last
-    → ids_in (filter (λ log. is_open_at (f log.id) a log) logs) ≡ q a
-    → ids_in (filter (λ log. is_open_at (opener_after last (length shots) admin log.id (f log.id)) a log) (logs ++ map log_of (placed_from last (length (q admin)) shots)))
-    ≡ cond (eqb a admin) (q a ++ added_of (placed_from last (length (q a)) shots)) (q a)
-opened-behind f q a admin last logs shots rising before =
-    let test : Log → Bool = λ (log : Log). is_open_at (opener_after last (length shots) admin log.id (f log.id)) a log in
-    let more : List Log = map log_of (placed_from last (length (q admin)) shots) in
-    ap ids_in (filter-append test logs more)
-    ∙ map-append (λ (log : Log). log.id) (filter test logs) (filter test more)
-    ∙ ap (λ (kept : List Log). ids_in kept ++ ids_in (filter test more)) (old-open f a 0 last (length shots) admin logs rising)
-    ∙ ap (λ (ids : List ℕ). ids ++ ids_in (filter test more)) before
-    ∙ ap (λ (ids : List ℕ). q a ++ ids) (new-open f a last (length shots) admin last (length (q admin)) shots (omega arith) (omega arith))
-    ∙ open-own q a admin last shots (eqb a admin) refl
-
--- a stop ends those of its admin, and leaves the others
-stopped-open : (f : ℕ → Option ℕ) (a admin : ℕ) (logs : List Log) (ids : List ℕ) (b : Bool) → eqb a admin ≡ b
-    → ids_in (filter (λ log. is_open_at (f log.id) a log) logs) ≡ ids
-    → ids_in (filter (λ log. is_open_at (f log.id) a log) (ended_where (λ log. is_open_at (f log.id) admin log) logs)) ≡ cond b [] ids
-stopped-open f a admin logs ids true test before =
-    let same : a ≡ admin = grind (arith, nat_tests) in
-    let P : ℕ → Type 0 = λ n. ids_in (filter (λ (log : Log). is_open_at (f log.id) a log) (ended_where (λ (log : Log). is_open_at (f log.id) n log) logs)) ≡ [] in
-    subst P same (ap ids_in (none-passes (λ (log : Log). is_open_at (f log.id) a log) (λ (log : Log). is_open_at (f log.id) a log) (λ log closed. closed) (λ log. ended-closed (f log.id) a log) logs))
-stopped-open f a admin logs ids false test before =
-    ap ids_in (same-pass (λ (log : Log). is_open_at (f log.id) a log) (λ (log : Log). is_open_at (f log.id) admin log) (λ log is. open-apart (f log.id) a admin log test is) (λ log. ended-closed (f log.id) a log) logs)
-    ∙ before
-
--- what is so of no admin is not so of this one
-of-none : (test : ℕ → Bool) (a : ℕ) → a < ADMINS → list_any test admins ≡ false → test a ≡ false
-of-none test a below none = by (test a) refl
+-- nothing is had of an id behind the last one
+has-none : (opener : Option ℕ) (a unsent fast slow : ℕ) → unsent ≡ 0 → Has opener a unsent fast slow → fast + slow ≡ 0
+has-none opener a unsent fast slow none has = by (is_own opener a) has
   where
-    by : (b : Bool) → test a ≡ b → b ≡ false
-    by false is = refl
-    by true is =
-        let many : a < length admins = omega (arith, length-range_with_len 0 ADMINS) in
-        let place : get_or admins a 0 ≡ a = omega (arith, get_or-range_with_len 0 ADMINS a 0 below) in
-        absurd (false≢true (sym none ∙ list_any_at test admins a 0 many (ap test place ∙ is)))
+    by : (b : Bool) → cond b unsent 0 ≡ fast + slow → fast + slow ≡ 0
+    by true is = omega (arith, is, none)
+    by false is = omega (arith, is)
 
--- the stop of all ends each
-reopened-open : (f : ℕ → Option ℕ) (a : ℕ) (logs : List Log) → a < ADMINS
-    → ids_in (filter (λ log. is_open_at (f log.id) a log) (ended_where (λ log. list_any (λ admin. is_open_at (f log.id) admin log) admins) logs)) ≡ []
-reopened-open f a logs below =
-    ap ids_in (none-passes (λ (log : Log). is_open_at (f log.id) a log) (λ (log : Log). list_any (λ admin. is_open_at (f log.id) admin log) admins)
-    (λ log none. of-none (λ admin. is_open_at (f log.id) admin log) a below none) (λ log. ended-closed (f log.id) a log) logs)
+-- a queue with more logs behind it
+queue-more : (b : Bool) (n more : ℕ) (queue added : List ℕ) → times n added ≡ more → times n (cond b (queue ++ added) queue) ≡ times n queue + cond b more 0
+queue-more true n more queue added is = times-append n queue added ∙ ap (λ m. times n queue + m) is
+queue-more false n more queue added is = omega arith
 
--- the open logs of an admin are those in its pool, in order
-pub open_logs : (h : History) → OpensWell (opening_of h) → (a : ℕ) → a < ADMINS → map (λ log. log.id) (filter (is_open_of h a) (logs_of h)) ≡ queue_of h a
-open_logs (Begin o) well a below = ap ids_in (kept-none o.logs)
-open_logs (After h (NodeStop admin) r) well a below = stopped-open (opener_of h) a admin (logs_of h) (queue_of h a) (eqb a admin) refl (open_logs h well a below)
-open_logs (After h Reopen r) well a below = reopened-open (opener_of h) a (logs_of h) below
-open_logs (After h (ScanStep admin) r) well a below = opened-behind (opener_of h) (queue_of h) a admin (last_log h) (logs_of h) (shots_stepped h) (logs_rise h well) (open_logs h well a below)
-open_logs (After h (Turn admin at) r) well a below = opened-behind (opener_of h) (queue_of h) a admin (last_log h) (logs_of h) (shots_turned h admin at) (logs_rise h well) (open_logs h well a below)
-open_logs (After h (TriggerJob admin at job param) r) well a below = opened-behind (opener_of h) (queue_of h) a admin (last_log h) (logs_of h) (shots_asked h at job param) (logs_rise h well) (open_logs h well a below)
-open_logs (After h _ r) well a below = open_logs h well a below
-
--- so there are as many
-pub open_count : (h : History) → OpensWell (opening_of h) → (a : ℕ) → a < ADMINS → open_at h a ≡ length (queue_of h a)
-open_count h well a below =
-    sym (length-filter (is_open_of h a) (logs_of h))
-    ∙ sym (length-map (filter (is_open_of h a) (logs_of h)) (λ (log : Log). log.id))
-    ∙ ap length (open_logs h well a below)
-
--- each log is open at an admin where its id is in the admin's pool
-open-marked : (h : History) → OpensWell (opening_of h) → (a : ℕ) → a < ADMINS → AllByRecursion (λ log. is_open_of h a log ≡ has (queue_of h a) log.id) (logs_of h)
-open-marked h well a below =
-    let P : List ℕ → Type 0 = λ ids. AllByRecursion (λ (log : Log). is_open_of h a log ≡ has ids log.id) (logs_of h) in
-    subst P (open_logs h well a below) (marked (λ (log : Log). log.id) (is_open_of h a) 0 (last_log h) (logs_of h) (logs_rise h well))
-
--- the logs that a stop ends are those in the admin's pool
-pub ended_at : (h : History) → OpensWell (opening_of h) → (a : ℕ) → a < ADMINS
-    → ended_where (is_open_of h a) (logs_of h) ≡ map (λ log. if list_any (λ id. id == log.id) (queue_of h a) then ended_log log else log) (logs_of h)
-ended_at h well a below = changed-marked (λ (log : Log). log.id) (is_open_of h a) ended_log (queue_of h a) (logs_of h) (open-marked h well a below)
-
--- a number of some admins is open at one of them where it is in one of their pools
-any-marked_one : (h : History) (log : Log) (f : ℕ → Bool) (numbers : List ℕ) → ((number : ℕ) → number < ADMINS → is_open_of h number log ≡ f number) → AllByRecursion (λ number. number < ADMINS) numbers
-    → list_any (λ number. is_open_of h number log) numbers ≡ list_any f numbers
-any-marked_one h log f [] same low = refl
-any-marked_one h log f (number ∷ numbers) same low =
-    ap (λ b. b || list_any (λ n. is_open_of h n log) numbers) (same number low.0) ∙ ap (λ b. f number || b) (any-marked_one h log f numbers same low.1)
-
-range-low : (from count top : ℕ) → from + count ≤ top → AllByRecursion (λ number. number < top) (range_with_len from count)
-range-low from zero top below = tt
-range-low from (suc count) top below = (omega arith, range-low (from + 1) count top (omega arith))
-
-any-marked : (h : History) (logs : List Log) → ((number : ℕ) → number < ADMINS → AllByRecursion (λ log. is_open_of h number log ≡ has (queue_of h number) log.id) logs)
-    → AllByRecursion (λ log. is_open_of_any h log ≡ has (concat (map (queue_of h) admins)) log.id) logs
-any-marked h [] marks = tt
-any-marked h (log ∷ logs) marks = (
-  any-marked_one h log (λ number. has (queue_of h number) log.id) admins (λ number below. (marks number below).0) (range-low 0 ADMINS ADMINS (omega arith)) ∙ sym (has-joined (queue_of h) log.id admins),
-  any-marked h logs (λ number below. (marks number below).1),
-)
-
--- the logs that the stop of all ends are those in the pools
-pub ended_everywhere : (h : History) → OpensWell (opening_of h)
-    → ended_where (is_open_of_any h) (logs_of h) ≡ map (λ log. if list_any (λ id. id == log.id) (concat (map (queue_of h) admins)) then ended_log log else log) (logs_of h)
-ended_everywhere h well =
-    changed-marked (λ (log : Log). log.id) (is_open_of_any h) ended_log (concat (map (queue_of h) admins)) (logs_of h) (any-marked h (logs_of h) (open-marked h well))
-
--- no id in a pool is above the last one
-placed-low : (last queued : ℕ) (shots : List Shot) → AreLow (last + length shots) (added_of (placed_from last queued shots))
-placed-low last queued [] = tt
-placed-low last queued (shot ∷ shots) = by (ltb queued MOST_FAST) (placed-low (last + 1) (one_more queued) shots)
+-- an admin opens logs
+has-opened : (opener : Option ℕ) (a admin n last : ℕ) (pools : ℕ → Pools) (shots : List Shot) (unsent : ℕ) (fast slow : List ℕ) → (last < n → unsent ≡ 0)
+    → Has opener a unsent (times n fast) (times n slow)
+    → Has (opener_after last (length shots) admin n opener) a (unsent + unsent_in n (rows_of (placed_from last (pools admin) shots)))
+    (times n (cond (eqb a admin) (fast ++ added_to FastPool (placed_from last (pools a) shots)) fast))
+    (times n (cond (eqb a admin) (slow ++ added_to SlowPool (placed_from last (pools a) shots)) slow))
+has-opened opener a admin n last pools shots unsent fast slow none has =
+    let new = unsent-new n last (pools admin) shots in
+    let fast_more = queue-more (eqb a admin) n (times n (added_to FastPool (placed_from last (pools a) shots))) fast (added_to FastPool (placed_from last (pools a) shots)) refl in
+    let slow_more = queue-more (eqb a admin) n (times n (added_to SlowPool (placed_from last (pools a) shots))) slow (added_to SlowPool (placed_from last (pools a) shots)) refl in
+    let P : Option ℕ → Type 0 = λ o. Has o a (unsent + unsent_in n (rows_of (placed_from last (pools admin) shots))) (times n (cond (eqb a admin) (fast ++ added_to FastPool (placed_from last (pools a) shots)) fast)) (times n (cond (eqb a admin) (slow ++ added_to SlowPool (placed_from last (pools a) shots)) slow)) in
+    ⊎_elim
+    (λ (above : last < n).
+    let before = has-none opener a unsent (times n fast) (times n slow) (none above) has in
+    let test : ltb last n ≡ true = grind (arith, nat_tests) in
+    ⊎_elim
+    (λ (high : last + length shots < n).
+    let f1 = (added-apart n last (λ p. is_in FastPool p.pool) (pools admin) shots).1 high in
+    let s1 = (added-apart n last (λ p. is_in SlowPool p.pool) (pools admin) shots).1 high in
+    let f2 = (added-apart n last (λ p. is_in FastPool p.pool) (pools a) shots).1 high in
+    let s2 = (added-apart n last (λ p. is_in SlowPool p.pool) (pools a) shots).1 high in
+    nothing (is_own (opener_after last (length shots) admin n opener) a) (eqb a admin) _ _ _ _ _ (omega (arith, none above, new, f1, s1)) fast_more slow_more f2 s2 before)
+    (λ (within : n ≤ last + length shots).
+    let low_test : leb n (last + length shots) ≡ true = grind (arith, nat_tests) in
+    let own : opener_after last (length shots) admin n opener ≡ Some admin = ap (λ b. cond (ltb last n && b) (Some admin) opener) low_test ∙ ap (λ b. cond (b && true) (Some admin) opener) test in
+    subst P (sym own) (given (eqb a admin) (eqb admin a) refl refl new fast_more slow_more before (none above)))
+    (cases_lt (last + length shots) n))
+    (λ (low : n ≤ last).
+    let test : ltb last n ≡ false = grind (arith, nat_tests) in
+    let same : opener_after last (length shots) admin n opener ≡ opener = ap (λ b. cond (b && leb n (last + length shots)) (Some admin) opener) test in
+    let f1 = (added-apart n last (λ p. is_in FastPool p.pool) (pools admin) shots).0 low in
+    let s1 = (added-apart n last (λ p. is_in SlowPool p.pool) (pools admin) shots).0 low in
+    let f2 = (added-apart n last (λ p. is_in FastPool p.pool) (pools a) shots).0 low in
+    let s2 = (added-apart n last (λ p. is_in SlowPool p.pool) (pools a) shots).0 low in
+    subst P (sym same) (kept (is_own opener a) (eqb a admin) _ (omega (arith, new, f1, s1)) fast_more slow_more f2 s2 has))
+    (cases_lt last n)
   where
-    by : (b : Bool) → AreLow (last + 1 + length shots) (added_of (placed_from (last + 1) (one_more queued) shots))
-        → AreLow (last + suc (length shots)) (added_of (record { shot = shot; log = last + 1; pool = cond b Fast Full } ∷ placed_from (last + 1) (one_more queued) shots))
-    by true rest = (omega arith, low-more (last + 1 + length shots) (last + suc (length shots)) (added_of (placed_from (last + 1) (one_more queued) shots)) rest (omega arith))
-    by false rest = low-more (last + 1 + length shots) (last + suc (length shots)) (added_of (placed_from (last + 1) (one_more queued) shots)) rest (omega arith)
+    -- nothing before, and nothing new
+    nothing : (o b : Bool) (u f s mf ms : ℕ) → u ≡ 0 → f ≡ times n fast + cond b mf 0 → s ≡ times n slow + cond b ms 0 → mf ≡ 0 → ms ≡ 0 → times n fast + times n slow ≡ 0 → cond o u 0 ≡ f + s
+    nothing true true u f s mf ms none f_is s_is a_is b_is before = omega (arith, none, f_is, s_is, a_is, b_is, before)
+    nothing true false u f s mf ms none f_is s_is a_is b_is before = omega (arith, none, f_is, s_is, a_is, b_is, before)
+    nothing false true u f s mf ms none f_is s_is a_is b_is before = omega (arith, none, f_is, s_is, a_is, b_is, before)
+    nothing false false u f s mf ms none f_is s_is a_is b_is before = omega (arith, none, f_is, s_is, a_is, b_is, before)
 
-low-behind_if : (last queued : ℕ) (ids : List ℕ) (shots : List Shot) (b : Bool) → AreLow last ids → AreLow (last + length shots) (cond b (ids ++ added_of (placed_from last queued shots)) ids)
-low-behind_if last queued ids shots true low =
-    low-behind (last + length shots) ids (added_of (placed_from last queued shots)) (low-more last (last + length shots) ids low (omega arith)) (placed-low last queued shots)
-low-behind_if last queued ids shots false low = low-more last (last + length shots) ids low (omega arith)
+    -- something before, and nothing new
+    kept : (o b : Bool) (u : ℕ) {f s mf ms : ℕ} → u ≡ 0 → f ≡ times n fast + cond b mf 0 → s ≡ times n slow + cond b ms 0 → mf ≡ 0 → ms ≡ 0 → cond o unsent 0 ≡ times n fast + times n slow → cond o (unsent + u) 0 ≡ f + s
+    kept true true u none f_is s_is a_is b_is before = omega (arith, none, f_is, s_is, a_is, b_is, before)
+    kept true false u none f_is s_is a_is b_is before = omega (arith, none, f_is, s_is, a_is, b_is, before)
+    kept false true u none f_is s_is a_is b_is before = omega (arith, none, f_is, s_is, a_is, b_is, before)
+    kept false false u none f_is s_is a_is b_is before = omega (arith, none, f_is, s_is, a_is, b_is, before)
 
-low-emptied : (last : ℕ) (ids : List ℕ) (b : Bool) → AreLow last ids → AreLow last (cond b [] ids)
-low-emptied last ids true low = tt
-low-emptied last ids false low = low
+    -- nothing before, and something new
+    given : (b c : Bool) → eqb a admin ≡ b → eqb admin a ≡ c → unsent_in n (rows_of (placed_from last (pools admin) shots)) ≡ times n (added_to FastPool (placed_from last (pools admin) shots)) + times n (added_to SlowPool (placed_from last (pools admin) shots))
+        → times n (cond (eqb a admin) (fast ++ added_to FastPool (placed_from last (pools a) shots)) fast) ≡ times n fast + cond (eqb a admin) (times n (added_to FastPool (placed_from last (pools a) shots))) 0
+        → times n (cond (eqb a admin) (slow ++ added_to SlowPool (placed_from last (pools a) shots)) slow) ≡ times n slow + cond (eqb a admin) (times n (added_to SlowPool (placed_from last (pools a) shots))) 0
+        → times n fast + times n slow ≡ 0 → unsent ≡ 0
+        → cond c (unsent + unsent_in n (rows_of (placed_from last (pools admin) shots))) 0
+        ≡ times n (cond (eqb a admin) (fast ++ added_to FastPool (placed_from last (pools a) shots)) fast) + times n (cond (eqb a admin) (slow ++ added_to SlowPool (placed_from last (pools a) shots)) slow)
+    given true true test turned new f_is s_is before none =
+        let same : a ≡ admin = grind (arith, nat_tests) in
+        let f2 : times n (added_to FastPool (placed_from last (pools a) shots)) ≡ times n (added_to FastPool (placed_from last (pools admin) shots)) = ap (λ x. times n (added_to FastPool (placed_from last (pools x) shots))) same in
+        let s2 : times n (added_to SlowPool (placed_from last (pools a) shots)) ≡ times n (added_to SlowPool (placed_from last (pools admin) shots)) = ap (λ x. times n (added_to SlowPool (placed_from last (pools x) shots))) same in
+        let f3 : cond (eqb a admin) (times n (added_to FastPool (placed_from last (pools a) shots))) 0 ≡ times n (added_to FastPool (placed_from last (pools a) shots)) = ap (λ b. cond b (times n (added_to FastPool (placed_from last (pools a) shots))) 0) test in
+        let s3 : cond (eqb a admin) (times n (added_to SlowPool (placed_from last (pools a) shots))) 0 ≡ times n (added_to SlowPool (placed_from last (pools a) shots)) = ap (λ b. cond b (times n (added_to SlowPool (placed_from last (pools a) shots))) 0) test in
+        omega (arith, new, f_is, s_is, f2, s2, f3, s3, before, none)
+    given true false test turned new f_is s_is before none = let never : ⊥ = grind (arith, nat_tests) in absurd never
+    given false true test turned new f_is s_is before none = let never : ⊥ = grind (arith, nat_tests) in absurd never
+    given false false test turned new f_is s_is before none =
+        let f3 : cond (eqb a admin) (times n (added_to FastPool (placed_from last (pools a) shots))) 0 ≡ 0 = ap (λ b. cond b (times n (added_to FastPool (placed_from last (pools a) shots))) 0) test in
+        let s3 : cond (eqb a admin) (times n (added_to SlowPool (placed_from last (pools a) shots))) 0 ≡ 0 = ap (λ b. cond b (times n (added_to SlowPool (placed_from last (pools a) shots))) 0) test in
+        omega (arith, f_is, s_is, f3, s3, before)
 
-queue-low : (h : History) (a : ℕ) → AreLow (last_log h) (queue_of h a)
-queue-low (Begin o) a = tt
-queue-low (After h (NodeStop admin) r) a = low-emptied (last_log h) (queue_of h a) (eqb a admin) (queue-low h a)
-queue-low (After h Reopen r) a = tt
-queue-low (After h (ScanStep admin) r) a = low-behind_if (last_log h) (length (queue_of h a)) (queue_of h a) (shots_stepped h) (eqb a admin) (queue-low h a)
-queue-low (After h (Turn admin at) r) a = low-behind_if (last_log h) (length (queue_of h a)) (queue_of h a) (shots_turned h admin at) (eqb a admin) (queue-low h a)
-queue-low (After h (TriggerJob admin at job param) r) a = low-behind_if (last_log h) (length (queue_of h a)) (queue_of h a) (shots_asked h at job param) (eqb a admin) (queue-low h a)
-queue-low (After h _ r) a = queue-low h a
+-- an admin's logs without a trigger code are those in its pools
+abbrev pub Balanced : History → ℕ → ℕ → Type 0
+Balanced h a n = Has (opener_of h n) a (unsent_in n (logs_of h)) (times n (queue_of h a FastPool)) (times n (queue_of h a SlowPool))
 
-pub queue_low : (h : History) (a : ℕ) → All (λ id. id ≤ last_log h) (queue_of h a)
-queue_low h a = All-from_recursion (λ id. id ≤ last_log h) (queue_of h a) (queue-low h a)
+opened : (h : History) (a admin n : ℕ) (shots : List Shot) → OpensWell (opening_of h) → Balanced h a n
+    → Has (opener_after (last_log h) (length shots) admin n (opener_of h n)) a (unsent_in n (logs_of h ++ rows_of (placed_at h admin shots)))
+    (times n (cond (eqb a admin) (queue_of h a FastPool ++ added_to FastPool (placed_at h a shots)) (queue_of h a FastPool)))
+    (times n (cond (eqb a admin) (queue_of h a SlowPool ++ added_to SlowPool (placed_at h a shots)) (queue_of h a SlowPool)))
+opened h a admin n shots well before =
+    let P : ℕ → Type 0 = λ u. Has (opener_after (last_log h) (length shots) admin n (opener_of h n)) a u
+    (times n (cond (eqb a admin) (queue_of h a FastPool ++ added_to FastPool (placed_at h a shots)) (queue_of h a FastPool)))
+    (times n (cond (eqb a admin) (queue_of h a SlowPool ++ added_to SlowPool (placed_at h a shots)) (queue_of h a SlowPool))) in
+    subst P (sym (unsent-append n (logs_of h) (rows_of (placed_at h admin shots))))
+    (has-opened (opener_of h n) a admin n (last_log h) (pools_of h) shots (unsent_in n (logs_of h)) (queue_of h a FastPool) (queue_of h a SlowPool)
+    (λ above. unsent-above n 0 (last_log h) (logs_of h) (logs_rise h well) above) before)
+
+-- the stop of an admin
+stopped : (opener : Option ℕ) (a admin n unsent : ℕ) (fast slow : List ℕ) (ended : ℕ) → ended ≡ cond (is_own opener admin) 0 unsent → Has opener a unsent (times n fast) (times n slow)
+    → Has opener a ended (times n (cond (eqb a admin) [] fast)) (times n (cond (eqb a admin) [] slow))
+stopped opener a admin n unsent fast slow ended e before = by opener (eqb a admin) refl e before
+  where
+    own-stopped : (c : Bool) → ended ≡ cond c 0 unsent → cond c ended 0 ≡ 0 + 0
+    own-stopped true e = omega (arith, e)
+    own-stopped false e = refl
+
+    other : (x : ℕ) (c d : Bool) → eqb a admin ≡ false → eqb x a ≡ c → eqb x admin ≡ d → ended ≡ cond d 0 unsent → cond c unsent 0 ≡ times n fast + times n slow → cond c ended 0 ≡ times n fast + times n slow
+    other x true true test p q e before = let never : ⊥ = grind (arith, nat_tests) in absurd never
+    other x true false test p q e before = omega (arith, e, before)
+    other x false d test p q e before = before
+
+    by : (o : Option ℕ) (b : Bool) → eqb a admin ≡ b → ended ≡ cond (is_own o admin) 0 unsent → Has o a unsent (times n fast) (times n slow)
+        → cond (is_own o a) ended 0 ≡ times n (cond b [] fast) + times n (cond b [] slow)
+    by None true test e before = refl
+    by None false test e before = before
+    by (Some x) true test e before =
+        let same : a ≡ admin = grind (arith, nat_tests) in
+        let own : eqb x admin ≡ eqb x a = ap (λ y. eqb x y) (sym same) in
+        own-stopped (eqb x a) (e ∙ ap (λ c. cond c 0 unsent) own)
+    by (Some x) false test e before = other x (eqb x a) (eqb x admin) test refl refl e before
+
+-- the stop of all
+all-stopped : (opener : Option ℕ) (a unsent ended : ℕ) → ended ≡ cond (is_some opener) 0 unsent → cond (is_own opener a) ended 0 ≡ 0 + 0
+all-stopped None a unsent ended e = refl
+all-stopped (Some x) a unsent ended e = by (eqb x a)
+  where
+    by : (b : Bool) → cond b ended 0 ≡ 0 + 0
+    by true = omega (arith, e)
+    by false = refl
+
+pub balanced : (h : History) → OpensWell (opening_of h) → (a n : ℕ) → Balanced h a n
+balanced (Begin o) well a n = refl
+balanced (After h (ScanStep admin) r) well a n = opened h a admin n (shots_stepped h) well (balanced h well a n)
+balanced (After h (Turn admin at) r) well a n = opened h a admin n (shots_turned h admin at) well (balanced h well a n)
+balanced (After h (TriggerJob admin at job param) r) well a n = opened h a admin n (shots_asked h at job param) well (balanced h well a n)
+balanced (After h (NodeStop admin) r) well a n =
+    stopped (opener_of h n) a admin n (unsent_in n (logs_of h)) (queue_of h a FastPool) (queue_of h a SlowPool) _ (unsent-ended (opener_of h) n admin (logs_of h)) (balanced h well a n)
+balanced (After h Reopen r) well a n = all-stopped (opener_of h n) a (unsent_in n (logs_of h)) _ (unsent-ended_all (opener_of h) n (logs_of h))
+balanced (After h _ r) well a n = balanced h well a n

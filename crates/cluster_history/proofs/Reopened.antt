@@ -1,18 +1,18 @@
 -- What a stop of all admins counts.
-use Rattle.std.proofs.Common.{◌≡◌, ℕ, zero, suc, ◌+◌, ◌<◌, List, [], ◌∷◌, Bool, true, false, cond, eqb, map, length, refl, sym, ap, ◌∙◌, arith}
+use Rattle.std.proofs.Common.{◌≡◌, ℕ, zero, suc, ◌+◌, ◌<◌, List, [], ◌∷◌, ◌++◌, Bool, true, false, cond, eqb, map, length, refl, sym, ap, ap₂, ◌∙◌, arith}
 use Rattle.std.specs.List.{count_by, sum, range_with_len, AllByRecursion}
 use Rattle.std.proofs.lemmas.Bool.{false≢true}
 use Rattle.std.proofs.lemmas.Bool.Decides.{nat_tests}
 use Rattle.std.proofs.lemmas.List.Sums.{sum_by-cons}
-use Rattle.cluster_history.specs.declared.limits.TheConstants.{ADMINS}
-use Rattle.cluster_history.specs.declared.ticket.Ticket.{Ticket}
+use Rattle.job_values.specs.declared.words.PoolKind.TheVariants.{Fast as FastPool, Slow as SlowPool}
+use Rattle.job_values.specs.declared.limits.TheConstants.{ADMINS}
 use Rattle.cluster_history.specs.History.{History, opening_of}
 use Rattle.cluster_history.specs.Nodes.{runs}
-use Rattle.cluster_history.specs.Tickets.{waiting, waiting_at, is_at}
-use Rattle.cluster_history.specs.Logs.{queue_of, open_at}
+use Rattle.cluster_history.specs.Tickets.{Waiting, waiting, waiting_at, is_at}
+use Rattle.cluster_history.specs.Logs.{queued_at, open_at}
 use Rattle.cluster_history.specs.Replies.{over_running}
 use Rattle.cluster_history.specs.Runs.{OpensWell, IsAnswered, waiting_in, queued_in}
-use Rattle.cluster_history.proofs.OpenLogs.{open_count}
+use Rattle.cluster_history.proofs.Stops.{open_count}
 use Rattle.cluster_history.proofs.Running.{queue_stopped, tickets_run}
 
 -- a sum over the admins that run is the sum over all, where the others have none
@@ -29,7 +29,7 @@ over-range f m n from (suc count) same none =
     over-range f m n (from + 1) count (λ a below. same a (omega arith)) (λ a below. none a (omega arith)) in
     omega (arith, sum_by-cons (λ x. x) (cond (f from) (m from) 0) (map (λ a. cond (f a) (m a) 0) (range_with_len (from + 1) count)), sum_by-cons (λ x. x) (n from) (map n (range_with_len (from + 1) count)))
 
-none-at : (f : ℕ → Bool) (a : ℕ) (tickets : List Ticket) → f a ≡ false → AllByRecursion (λ ticket. f ticket.admin ≡ true) tickets → count_by (is_at a) tickets ≡ 0
+none-at : (f : ℕ → Bool) (a : ℕ) (tickets : List Waiting) → f a ≡ false → AllByRecursion (λ ticket. f ticket.admin ≡ true) tickets → count_by (is_at a) tickets ≡ 0
 none-at f a [] stopped run = refl
 none-at f a (ticket ∷ tickets) stopped run =
     omega (arith, sum_by-cons (λ t. cond (is_at a t) 1 0) ticket tickets, none-at f a tickets stopped run.1, none (eqb ticket.admin a) refl)
@@ -49,4 +49,5 @@ reopened_lost h answered = over-range (runs h) (waiting_at h) (waiting_at h) 0 A
 -- and ends the logs in all pools
 pub reopened_ended : (h : History) → OpensWell (opening_of h) → IsAnswered h → over_running h (open_at h) ≡ queued_in h
 reopened_ended h well answered =
-    over-range (runs h) (open_at h) (λ a. length (queue_of h a)) 0 ADMINS (λ a below is. open_count h well a below) (λ a below stopped. ap length (queue_stopped h answered a stopped))
+    over-range (runs h) (open_at h) (λ a. length (queued_at h a)) 0 ADMINS (λ a below is. open_count h well a)
+    (λ a below stopped. ap₂ (λ (fast slow : List ℕ). length (fast ++ slow)) (queue_stopped h answered a FastPool stopped) (queue_stopped h answered a SlowPool stopped))

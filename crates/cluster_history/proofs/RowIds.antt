@@ -1,7 +1,7 @@
 -- The ids of a history's rows rise up to the last ids that were given.
-use Rattle.std.proofs.Common.{◌≡◌, ℕ, ◌+◌, ◌<◌, ◌≤◌, List, [], ◌∷◌, ◌++◌, Bool, true, false, cond, eqb, length, map, refl, sym, subst, arith}
+use Rattle.std.proofs.Common.{◌≡◌, ℕ, ◌+◌, ◌<◌, ◌≤◌, List, [], ◌∷◌, ◌++◌, Bool, true, false, cond, eqb, length, map, refl, sym, ap, ◌∙◌, subst, arith}
 use Rattle.std.specs.List.{filter}
-use Rattle.job_values.specs.declared.cluster.ClusterEvent.TheVariants.{NodeStop, AddGroup, SetGroup, AddJob, RemoveJob, TriggerJob, ScanStep, Turn, Reopen}
+use Rattle.job_events.specs.declared.cluster.ClusterEvent.TheVariants.{NodeStop, AddGroup, SetGroup, AddJob, RemoveJob, TriggerJob, ScanStep, Turn, Reopen}
 use Rattle.job_records.specs.declared.job.Job.{Job}
 use Rattle.job_records.specs.declared.group.Group.{Group}
 use Rattle.job_records.specs.declared.log.Log.{Log}
@@ -11,7 +11,9 @@ use Rattle.cluster_history.specs.History.{History, Begin, After, opening_of}
 use Rattle.cluster_history.specs.Groups.{groups_of, last_group}
 use Rattle.cluster_history.specs.Jobs.{ids_of, jobs_of, last_job, row_of}
 use Rattle.cluster_history.specs.Firings.{Shot, shots_stepped, shots_turned, shots_asked}
-use Rattle.cluster_history.specs.Logs.{placed_from, one_more, log_of, ended_where, ended_log, is_open_of, is_open_of_any, logs_of, last_log, queue_of}
+use Rattle.cluster_history.specs.Openings.{Pools, Placed, placed_from, pool_of, one_more, pools_after, rows_of}
+use Rattle.cluster_history.specs.Settling.{ended_where, ended_log}
+use Rattle.cluster_history.specs.Logs.{is_open_of, is_open_of_any, logs_of, last_log, pools_of}
 use Rattle.cluster_history.specs.Runs.{OpensWell}
 
 -- rows that keep their ids keep their order
@@ -60,7 +62,7 @@ change-keeps id group set false keeps = refl
 
 -- the ids of the groups rise up to the last one
 pub groups_rise : (h : History) → OpensWell (opening_of h) → IsRising (λ group. group.id) 0 (groups_of h) (last_group h)
-groups_rise (Begin o) well = well.groups
+groups_rise (Begin o) well = well.rules.groups.rising
 groups_rise (After h (AddGroup app kind addresses) r) well =
     rising-push (λ (group : Group). group.id) 0 (last_group h) (groups_of h) (record { id = last_group h + 1; app = app; kind = kind; addresses = addresses }) (groups_rise h well) (omega arith)
 groups_rise (After h (SetGroup id kind addresses) r) well =
@@ -69,7 +71,7 @@ groups_rise (After h _ r) well = groups_rise h well
 
 -- the ids of the present jobs rise up to the last one
 pub ids_rise : (h : History) → OpensWell (opening_of h) → IsRising (λ id. id) 0 (ids_of h) (last_job h)
-ids_rise (Begin o) well = rising-ids (λ (job : Job). job.id) 0 o.last_job o.jobs well.jobs
+ids_rise (Begin o) well = rising-ids (λ (job : Job). job.id) 0 o.tables.last.job o.tables.jobs well.rules.jobs.rising
 ids_rise (After h (AddJob spec) r) well = rising-push (λ (id : ℕ). id) 0 (last_job h) (ids_of h) (last_job h + 1) (ids_rise h well) (omega arith)
 ids_rise (After h (RemoveJob job) r) well = rising-kept (λ (id : ℕ). id) _ 0 (last_job h) (ids_of h) (ids_rise h well)
 ids_rise (After h _ r) well = ids_rise h well
@@ -77,11 +79,20 @@ ids_rise (After h _ r) well = ids_rise h well
 pub jobs_rise : (h : History) → OpensWell (opening_of h) → IsRising (λ job. job.id) 0 (jobs_of h) (last_job h)
 jobs_rise h well = rising-rows (λ (job : Job). job.id) (row_of h) (λ id. refl) 0 (last_job h) (ids_of h) (ids_rise h well)
 
+-- logs that are opened for some shots and then for others
+pub placed-append : (last : ℕ) (pools : Pools) (xs ys : List Shot) → placed_from last pools (xs ++ ys) ≡ placed_from last pools xs ++ placed_from (last + length xs) (pools_after pools xs) ys
+placed-append last pools [] ys = let same : last ≡ last + 0 = omega arith in ap (λ n. placed_from n pools ys) same
+placed-append last pools (x ∷ xs) ys =
+    let same : (last + 1) + length xs ≡ last + length (x ∷ xs) = omega arith in
+    ap (λ (placed : List Placed). record { shot = x; log = last + 1; pool = pool_of pools x } ∷ placed)
+    (placed-append (last + 1) (one_more (pool_of pools x) pools) xs ys
+    ∙ ap (λ n. placed_from (last + 1) (one_more (pool_of pools x) pools) xs ++ placed_from n (pools_after (one_more (pool_of pools x) pools) xs) ys) same)
+
 -- opened logs rise from the last one, one for each shot
-placed-rise : (last queued : ℕ) (shots : List Shot) → IsRising (λ log. log.id) last (map log_of (placed_from last queued shots)) (last + length shots)
-placed-rise last queued [] = omega arith
-placed-rise last queued (shot ∷ shots) =
-    (omega arith, subst (λ n. IsRising (λ (log : Log). log.id) (last + 1) (map log_of (placed_from (last + 1) (one_more queued) shots)) n) (omega arith) (placed-rise (last + 1) (one_more queued) shots))
+pub placed-rise : (last : ℕ) (pools : Pools) (shots : List Shot) → IsRising (λ log. log.id) last (rows_of (placed_from last pools shots)) (last + length shots)
+placed-rise last pools [] = omega arith
+placed-rise last pools (shot ∷ shots) =
+    (omega arith, subst (λ n. IsRising (λ (log : Log). log.id) (last + 1) (rows_of (placed_from (last + 1) (one_more (pool_of pools shot) pools) shots)) n) (omega arith) (placed-rise (last + 1) (one_more (pool_of pools shot) pools) shots))
 
 end-keeps : (log : Log) (b : Bool) → (cond b (ended_log log) log).id ≡ log.id
 end-keeps log true = refl
@@ -92,13 +103,13 @@ ended-rise is_open low last logs h = rising-mapped (λ (log : Log). log.id) (λ 
 
 -- the ids of the logs rise up to the last one
 pub logs_rise : (h : History) → OpensWell (opening_of h) → IsRising (λ log. log.id) 0 (logs_of h) (last_log h)
-logs_rise (Begin o) well = well.logs
+logs_rise (Begin o) well = well.rules.logs.rising
 logs_rise (After h (NodeStop admin) r) well = ended-rise (is_open_of h admin) 0 (last_log h) (logs_of h) (logs_rise h well)
 logs_rise (After h Reopen r) well = ended-rise (is_open_of_any h) 0 (last_log h) (logs_of h) (logs_rise h well)
 logs_rise (After h (ScanStep admin) r) well =
-    rising-behind (λ (log : Log). log.id) 0 (last_log h) (last_log h + length (shots_stepped h)) (logs_of h) _ (logs_rise h well) (placed-rise (last_log h) (length (queue_of h admin)) (shots_stepped h))
+    rising-behind (λ (log : Log). log.id) 0 (last_log h) (last_log h + length (shots_stepped h)) (logs_of h) _ (logs_rise h well) (placed-rise (last_log h) (pools_of h admin) (shots_stepped h))
 logs_rise (After h (Turn admin at) r) well =
-    rising-behind (λ (log : Log). log.id) 0 (last_log h) (last_log h + length (shots_turned h admin at)) (logs_of h) _ (logs_rise h well) (placed-rise (last_log h) (length (queue_of h admin)) (shots_turned h admin at))
+    rising-behind (λ (log : Log). log.id) 0 (last_log h) (last_log h + length (shots_turned h admin at)) (logs_of h) _ (logs_rise h well) (placed-rise (last_log h) (pools_of h admin) (shots_turned h admin at))
 logs_rise (After h (TriggerJob admin at job param) r) well =
-    rising-behind (λ (log : Log). log.id) 0 (last_log h) (last_log h + length (shots_asked h at job param)) (logs_of h) _ (logs_rise h well) (placed-rise (last_log h) (length (queue_of h admin)) (shots_asked h at job param))
+    rising-behind (λ (log : Log). log.id) 0 (last_log h) (last_log h + length (shots_asked h at job param)) (logs_of h) _ (logs_rise h well) (placed-rise (last_log h) (pools_of h admin) (shots_asked h at job param))
 logs_rise (After h _ r) well = logs_rise h well

@@ -10,14 +10,13 @@ use Rattle.job_values.specs.declared.words.Case.TheVariants as case
 use Rattle.job_records.specs.declared.job.Job.{Job}
 use Rattle.job_records.specs.declared.group.Group.{Group}
 use Rattle.cluster_history.specs.declared.scan.Scan.{Scan}
-use Rattle.cluster_history.specs.declared.ticket.Ticket.{Ticket}
 use Rattle.cluster_history.specs.History.{History}
 use Rattle.cluster_history.specs.Groups.{groups_of, group_with, addresses_in}
 use Rattle.cluster_history.specs.Looks.{Looked, job_with}
 use Rattle.cluster_history.specs.Jobs.{jobs_of, scan_of, look_of}
-use Rattle.cluster_history.specs.Tickets.{waiting, taken, second_of}
+use Rattle.cluster_history.specs.Tickets.{Waiting, waiting, taken, second_of}
 
--- one log that a firing of a job is to open: the job's row, the parameter, why and when it fires, and the shard
+-- one log that a firing of a job is to open: the job's row, the parameter, why and when it fires, the shard, and how often it may be tried again
 pub record Shot : Type 0 where
   pub row : Job
   pub param : List ℕ
@@ -25,6 +24,7 @@ pub record Shot : Type 0 where
   pub time : ℕ
   pub index : ℕ
   pub total : ℕ
+  pub retries : ℕ
 
 -- a broadcast has a shard for each address, and one where there is none; every other route has one
 abbrev pub shards : Route → List (List ℕ) → ℕ
@@ -33,7 +33,7 @@ shards _ addresses = 1
 
 -- the log of one shard
 abbrev pub shot_for : Job → List ℕ → TriggerKind → ℕ → ℕ → ℕ → Shot
-shot_for row param kind time total index = record { row = row; param = param; kind = kind; time = time; index = index; total = total }
+shot_for row param kind time total index = record { row = row; param = param; kind = kind; time = time; index = index; total = total; retries = row.spec.retries }
 
 -- one for each shard, in order
 abbrev pub shots_by : Job → List ℕ → TriggerKind → ℕ → ℕ → List Shot
@@ -76,13 +76,13 @@ shots_scanned groups None look = []
 shots_scanned groups (Some scan) look = shots_looked groups scan.at look
 
 -- a ticket that a turn took
-abbrev pub shots_taken : List Group → List Job → ℕ → Ticket → List Shot
-shots_taken groups jobs time ticket = shots_if groups kind.Cron time (job_with ticket.job jobs)
+abbrev pub shots_taken : List Group → List Job → ℕ → Waiting → List Shot
+shots_taken groups jobs time one = shots_if groups kind.Cron time (job_with one.ticket.job jobs)
 
 -- tickets that a turn took, in order
-abbrev pub shots_for : List Group → List Job → ℕ → List Ticket → List Shot
+abbrev pub shots_for : List Group → List Job → ℕ → List Waiting → List Shot
 shots_for groups jobs time [] = []
-shots_for groups jobs time (ticket ∷ tickets) = shots_taken groups jobs time ticket ++ shots_for groups jobs time tickets
+shots_for groups jobs time (one ∷ ones) = shots_taken groups jobs time one ++ shots_for groups jobs time ones
 
 -- the logs that the next step of the open scan is to open, in order
 abbrev pub shots_stepped : History → List Shot

@@ -1,6 +1,6 @@
 -- The groups.
 use Rattle.std.specs.Prelude.{ℕ, ◌+◌, List, [], ◌∷◌, ◌++◌, Option, Some, None}
-use Rattle.job_values.specs.declared.cluster.ClusterEvent.TheVariants.{AddGroup, SetGroup}
+use Rattle.job_events.specs.declared.cluster.ClusterEvent.TheVariants.{AddGroup, SetGroup}
 use Rattle.job_values.specs.declared.words.GroupKind.{GroupKind}
 use Rattle.job_records.specs.declared.group.Group.{Group}
 use Rattle.job_records.specs.Rows.{row_with, changed}
@@ -8,7 +8,7 @@ use Rattle.cluster_history.specs.History.{History, Begin, After}
 
 -- the id of the last group that was added
 abbrev pub last_group : History → ℕ
-last_group (Begin o) = o.last_group
+last_group (Begin o) = o.tables.last.group
 last_group (After h (AddGroup app kind addresses) r) = last_group h + 1
 last_group (After h _ r) = last_group h
 
@@ -18,7 +18,7 @@ group_set kind addresses group = record { id = group.id; app = group.app; kind =
 
 -- the groups, in order of their adding, each with the kind and the addresses that it was given last
 abbrev pub groups_of : History → List Group
-groups_of (Begin o) = o.groups
+groups_of (Begin o) = o.tables.groups
 groups_of (After h (AddGroup app kind addresses) r) =
     groups_of h ++ record { id = last_group h + 1; app = app; kind = kind; addresses = addresses } ∷ []
 groups_of (After h (SetGroup id kind addresses) r) = changed (λ group. group.id) id (group_set kind addresses) (groups_of h)

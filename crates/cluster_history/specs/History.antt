@@ -1,24 +1,20 @@
 -- Histories of the cluster: what it opened with, and each event with its reply, the last one outermost.
-use Rattle.std.specs.Prelude.{ℕ, List, [], Bool, true, false}
-use Rattle.job_values.specs.declared.cluster.ClusterEvent.{ClusterEvent}
-use Rattle.job_values.specs.declared.cluster.ClusterReply.{ClusterReply}
-use Rattle.job_values.specs.declared.cluster.ClusterReply.TheVariants.{Refused}
-use Rattle.job_records.specs.declared.job.Job.{Job}
-use Rattle.job_records.specs.declared.group.Group.{Group}
-use Rattle.job_records.specs.declared.log.Log.{Log}
-use Rattle.job_records.specs.declared.registry.RegistryRow.{RegistryRow}
+use Rattle.std.specs.Prelude.{ℕ, ◌+◌, ◌==◌, List, [], ◌∷◌, Bool, true, false, nat_lt, Option, Some, None, if◌then◌else◌}
+use Rattle.job_events.specs.declared.cluster.ClusterEvent.{ClusterEvent}
+use Rattle.job_events.specs.declared.cluster.ClusterReply.{ClusterReply}
+use Rattle.job_events.specs.declared.cluster.ClusterReply.TheVariants.{Refused}
+use Rattle.job_records.specs.Tables.{Tables, no_rows}
 use Rattle.cluster_history.specs.declared.settings.Settings.{Settings}
 
--- what a cluster opens with: its settings, the rows, and the last ids that were given
+-- what a cluster opens with: its settings, and the rows with the last ids that were given
 pub record Opening : Type 0 where
   pub settings : Settings
-  pub groups : List Group
-  pub jobs : List Job
-  pub logs : List Log
-  pub registry : List RegistryRow
-  pub last_group : ℕ
-  pub last_job : ℕ
-  pub last_log : ℕ
+  pub tables : Tables
+
+-- an event with its reply
+pub record Entry : Type 0 where
+  pub event : ClusterEvent
+  pub reply : ClusterReply
 
 -- an opening, or a history with one entry more
 pub data History : Type 0 where
@@ -29,6 +25,26 @@ pub data History : Type 0 where
 abbrev pub opening_of : History → Opening
 opening_of (Begin o) = o
 opening_of (After h e r) = opening_of h
+
+-- the history with these entries behind it, the oldest one first
+abbrev pub after_all : History → List Entry → History
+after_all h [] = h
+after_all h (entry ∷ entries) = after_all (After h entry.event entry.reply) entries
+
+-- how many entries there are, which is the place of the last one
+abbrev pub places : History → ℕ
+places (Begin o) = 0
+places (After h e r) = places h + 1
+
+-- the entry at a place, if there is one
+abbrev pub entry_at : History → ℕ → Option Entry
+entry_at (Begin o) place = None
+entry_at (After h e r) place = if place == places h + 1 then Some (record { event = e; reply = r }) else entry_at h place
+
+-- the history of the entries before a place
+abbrev pub before : History → ℕ → History
+before (Begin o) place = Begin o
+before (After h e r) place = if nat_lt (places h + 1) place then After h e r else before h place
 
 -- whether a reply refuses its event
 abbrev pub is_refusal : ClusterReply → Bool
@@ -52,4 +68,4 @@ settings_of (After h e r) = settings_of h
 
 -- the opening of a new cluster
 abbrev pub empty_opening : Settings → Opening
-empty_opening settings = record { settings = settings; groups = []; jobs = []; logs = []; registry = []; last_group = 0; last_job = 0; last_log = 0 }
+empty_opening settings = record { settings = settings; tables = no_rows }

@@ -1,8 +1,8 @@
 -- The admins.
 use Rattle.std.specs.Prelude.{ℕ, ◌==◌, List, Bool, true, false, if◌then◌else◌}
 use Rattle.std.specs.List.{range_with_len}
-use Rattle.job_values.specs.declared.cluster.ClusterEvent.TheVariants.{NodeStart, NodeStop, Reopen}
-use Rattle.cluster_history.specs.declared.limits.TheConstants.{ADMINS}
+use Rattle.job_events.specs.declared.cluster.ClusterEvent.TheVariants.{NodeStart, NodeStop, Reopen}
+use Rattle.job_values.specs.declared.limits.TheConstants.{ADMINS}
 use Rattle.cluster_history.specs.History.{History, Begin, After}
 
 -- an admin runs from its start on, to its stop or the stop of all

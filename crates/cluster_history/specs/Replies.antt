@@ -1,32 +1,38 @@
 -- The reply of each event: the first refusal that applies, in order, else what was done.
 use Rattle.std.specs.Prelude.{ℕ, ◌+◌, ◌-◌, ◌^◌, ℤ, min, sum, List, [], ◌∷◌, map, length, Bool, true, false, nat_lt, is_some, Option, Some, None, Result, Ok, Err, slice_get, ◌==◌, if◌then◌else◌}
-use Rattle.job_values.specs.declared.numbers.TheConstants.{LAST_JOB_ID, LAST_LOG_ID}
-use Rattle.job_values.specs.declared.job.ShownLog.{ShownLog}
-use Rattle.job_values.specs.declared.job.FiredTicket.{FiredTicket}
-use Rattle.job_values.specs.declared.job.ScheduleFault.{ScheduleFault}
-use Rattle.job_values.specs.declared.cluster.ClusterEvent.{ClusterEvent}
-use Rattle.job_values.specs.declared.cluster.ClusterEvent.TheVariants.{NodeStart, NodeStop, NodeAsk, AddGroup, SetGroup, AddJob, UpdateJob, StartJob, StopJob, RemoveJob, TriggerJob, ScanBegin, ScanStep, Turn, ReadLog, Reopen}
-use Rattle.job_values.specs.declared.cluster.ClusterRefusal.{ClusterRefusal}
-use Rattle.job_values.specs.declared.cluster.ClusterRefusal.TheVariants.{NodeRunning, NodeStopped, Busy, NotScanning, NoGroup, NoJob, NoLog, BadSchedule, NoNext, TooMany, IdsSpent}
-use Rattle.job_values.specs.declared.cluster.ClusterReply.{ClusterReply}
-use Rattle.job_values.specs.declared.cluster.ClusterReply.TheVariants as reply
+use Rattle.job_values.specs.declared.limits.TheConstants.{LAST_JOB_ID, LAST_LOG_ID}
+use Rattle.job_events.specs.declared.shown_log.ShownLog.{ShownLog}
+use Rattle.job_events.specs.declared.opened.FiredTicket.{FiredTicket}
+use Rattle.job_values.specs.declared.fault.ScheduleFault.{ScheduleFault}
+use Rattle.job_events.specs.declared.cluster.ClusterEvent.{ClusterEvent}
+use Rattle.job_events.specs.declared.cluster.ClusterEvent.TheVariants.{NodeStart, NodeStop, NodeAsk, AddGroup, SetGroup, AddJob, UpdateJob, StartJob, StopJob, RemoveJob, TriggerJob, ScanBegin, ScanStep, Turn, ReadLog, Reopen}
+use Rattle.job_events.specs.declared.cluster.ClusterRefusal.{ClusterRefusal}
+use Rattle.job_events.specs.declared.cluster.ClusterRefusal.TheVariants.{NodeRunning, NodeStopped, Busy, NotScanning, NoGroup, NoJob, NoLog, BadSchedule, BadZone, NoNext, TooMany, IdsSpent}
+use Rattle.job_events.specs.declared.cluster.ClusterReply.{ClusterReply}
+use Rattle.job_events.specs.declared.cluster.ClusterReply.TheVariants as reply
+use Rattle.job_values.specs.declared.fault.ZoneFault.{ZoneFault}
+use Rattle.zone_texts.specs.declared.zone.Zone.{Zone}
 use Rattle.cron_schedule.specs.declared.plan.Plan.{Plan}
 use Rattle.cron_schedule.specs.Parse.{parsed}
 use Rattle.job_records.specs.declared.job.Job.{Job}
 use Rattle.job_records.specs.declared.group.Group.{Group}
 use Rattle.job_records.specs.declared.log.Log.{Log}
-use Rattle.cluster_history.specs.declared.limits.TheConstants.{MOST_GROUPS, MOST_JOBS, LAST_EDITION}
+use Rattle.job_values.specs.declared.limits.TheConstants.{MOST_GROUPS, MOST_JOBS, LAST_EDITION}
 use Rattle.cluster_history.specs.declared.scan.Scan.{Scan}
-use Rattle.cluster_history.specs.declared.scan.Seat.{Seat}
-use Rattle.cluster_history.specs.declared.ticket.Ticket.{Ticket}
+use Rattle.cluster_history.specs.declared.scan.PageEntry.{PageEntry}
+use Rattle.cluster_history.specs.declared.settings.Settings.{Settings}
+use Rattle.time_ring.specs.declared.ticket.Ticket.{Ticket}
 use Rattle.cluster_history.specs.History.{History, accepted, settings_of}
+use Rattle.cluster_history.specs.Zones.{zone_in, zone_of}
 use Rattle.cluster_history.specs.Nodes.{runs, admins}
 use Rattle.cluster_history.specs.Groups.{groups_of, last_group, group_with}
 use Rattle.cluster_history.specs.Looks.{Looked, job_with}
 use Rattle.cluster_history.specs.Jobs.{jobs_of, last_job, scan_of, look_of, page_of, first_time, updated_time}
-use Rattle.cluster_history.specs.Tickets.{waiting, waiting_at, taken, second_of}
+use Rattle.cluster_history.specs.Tickets.{Waiting, waiting, waiting_at, taken, second_of}
 use Rattle.cluster_history.specs.Firings.{Shot, shots_stepped, shots_turned, shots_taken, shots_asked}
-use Rattle.cluster_history.specs.Logs.{logs_of, last_log, queue_of, open_at, log_with, placed_from, opened_of, one_more}
+use Rattle.cluster_history.specs.Openings.{Pools, placed_from, pools_after, opened_of}
+use Rattle.cluster_history.specs.Settling.{log_with}
+use Rattle.cluster_history.specs.Logs.{logs_of, last_log, pools_of, open_at}
 
 -- the reply that refuses
 abbrev pub refused : ClusterRefusal → ClusterReply
@@ -56,15 +62,20 @@ room_reply count last =
     then (if nat_lt last LAST_JOB_ID then reply.Job (last + 1) else refused (TooMany LAST_JOB_ID))
     else refused (TooMany MOST_JOBS)
 
+-- by what the zone's text says
+abbrev pub zone_reply : Result Zone ZoneFault → ℕ → ℕ → ClusterReply
+zone_reply (Err fault) count last = refused (BadZone fault)
+zone_reply (Ok zone) count last = room_reply count last
+
 -- by what the schedule's text says
-abbrev pub schedule_reply : Result Plan ScheduleFault → ℕ → ℕ → ClusterReply
-schedule_reply (Err fault) count last = refused (BadSchedule fault)
-schedule_reply (Ok plan) count last = room_reply count last
+abbrev pub schedule_reply : Result Plan ScheduleFault → Result Zone ZoneFault → ℕ → ℕ → ClusterReply
+schedule_reply (Err fault) zone count last = refused (BadSchedule fault)
+schedule_reply (Ok plan) zone count last = zone_reply zone count last
 
 -- by whether the group that the job names is there
-abbrev pub job_reply : Bool → Result Plan ScheduleFault → ℕ → ℕ → ClusterReply
-job_reply false said count last = refused NoGroup
-job_reply true said count last = schedule_reply said count last
+abbrev pub job_reply : Bool → Result Plan ScheduleFault → Result Zone ZoneFault → ℕ → ℕ → ClusterReply
+job_reply false said zone count last = refused NoGroup
+job_reply true said zone count last = schedule_reply said zone count last
 
 -- by the first time after the start
 abbrev pub edition_reply : ℕ → Option ℕ → ClusterReply
@@ -73,29 +84,34 @@ edition_reply edition (Some next) =
     if nat_lt edition LAST_EDITION then reply.Running (edition + 1) next else refused IdsSpent
 
 -- by the row of the job
-abbrev pub running_reply : ℤ → ℕ → Option Job → ClusterReply
-running_reply offset at None = refused NoJob
-running_reply offset at (Some row) = edition_reply row.edition (first_time offset row.schedule at)
+abbrev pub running_reply : Settings → ℕ → Option Job → ClusterReply
+running_reply settings at None = refused NoJob
+running_reply settings at (Some row) = edition_reply row.edition (first_time (zone_of settings row.spec) row.schedule at)
 
 -- by the edition and the next time of a job that is updated
 abbrev pub again_reply : ℕ → Bool → Option ℕ → ClusterReply
 again_reply edition true None = refused NoNext
 again_reply edition running next = if nat_lt edition LAST_EDITION then reply.Updated (edition + 1) next else refused IdsSpent
 
+-- by what the zone's text says
+abbrev pub clock_reply : ℕ → Job → Plan → Result Zone ZoneFault → ClusterReply
+clock_reply at row plan (Err fault) = refused (BadZone fault)
+clock_reply at row plan (Ok zone) = again_reply row.edition (is_some row.next) (updated_time zone plan at row.next)
+
 -- by what the schedule's text says
-abbrev pub plan_reply : ℤ → ℕ → Job → Result Plan ScheduleFault → ClusterReply
-plan_reply offset at row (Err fault) = refused (BadSchedule fault)
-plan_reply offset at row (Ok plan) = again_reply row.edition (is_some row.next) (updated_time offset plan at row.next)
+abbrev pub plan_reply : Result Zone ZoneFault → ℕ → Job → Result Plan ScheduleFault → ClusterReply
+plan_reply zone at row (Err fault) = refused (BadSchedule fault)
+plan_reply zone at row (Ok plan) = clock_reply at row plan zone
 
 -- by whether the group that the spec names is there
-abbrev pub spec_reply : Bool → ℤ → ℕ → Job → Result Plan ScheduleFault → ClusterReply
-spec_reply false offset at row said = refused NoGroup
-spec_reply true offset at row said = plan_reply offset at row said
+abbrev pub spec_reply : Bool → Result Zone ZoneFault → ℕ → Job → Result Plan ScheduleFault → ClusterReply
+spec_reply false zone at row said = refused NoGroup
+spec_reply true zone at row said = plan_reply zone at row said
 
 -- by the row of the job
-abbrev pub update_reply : Bool → ℤ → ℕ → Result Plan ScheduleFault → Option Job → ClusterReply
-update_reply grouped offset at said None = refused NoJob
-update_reply grouped offset at said (Some row) = spec_reply grouped offset at row said
+abbrev pub update_reply : Bool → Result Zone ZoneFault → ℕ → Result Plan ScheduleFault → Option Job → ClusterReply
+update_reply grouped zone at said None = refused NoJob
+update_reply grouped zone at said (Some row) = spec_reply grouped zone at row said
 
 -- by the row of the job
 abbrev pub halt_reply : Option Job → ClusterReply
@@ -146,7 +162,7 @@ abbrev pub over_running : History → (ℕ → ℕ) → ℕ
 over_running h count = sum (map (λ admin. if runs h admin then count admin else 0) admins)
 
 -- by the open scan
-abbrev pub begin_reply : Option Scan → List Seat → ClusterReply
+abbrev pub begin_reply : Option Scan → List PageEntry → ClusterReply
 begin_reply (Some scan) page = refused (Busy scan.owner)
 begin_reply None page = reply.Begun (length page)
 
@@ -154,52 +170,47 @@ begin_reply None page = reply.Begun (length page)
 abbrev pub if_ids : ℕ → ℕ → ClusterReply → ClusterReply
 if_ids last count answer = if nat_lt LAST_LOG_ID (last + count) then refused IdsSpent else answer
 
--- a look with the logs that it opens, or a skip of the seat's job
-abbrev pub look_reply : ℕ → ℕ → List Shot → ℕ → Option Looked → ClusterReply
-look_reply last queued shots job None = reply.Skip job
-look_reply last queued shots job (Some look) =
+-- a look with the logs that it opens, or a skip of the page entry's job
+abbrev pub look_reply : ℕ → Pools → List Shot → ℕ → Option Looked → ClusterReply
+look_reply last pools shots job None = reply.Skip job
+look_reply last pools shots job (Some look) =
     if_ids last (length shots) (reply.Look job look.decision.case look.due look.decision.next look.decision.put
-    (map opened_of (placed_from last queued shots)))
+    (map opened_of (placed_from last pools shots)))
 
--- by the seat that the step is at
-abbrev pub seat_reply : ℕ → ℕ → List Shot → Option Looked → Option Seat → ClusterReply
-seat_reply last queued shots look None = refused NotScanning
-seat_reply last queued shots look (Some seat) = look_reply last queued shots seat.job look
+-- by the page entry that the step is at
+abbrev pub entry_reply : ℕ → Pools → List Shot → Option Looked → Option PageEntry → ClusterReply
+entry_reply last pools shots look None = refused NotScanning
+entry_reply last pools shots look (Some entry) = look_reply last pools shots entry.job look
 
 -- by the open scan, and by what its next step looks at
-abbrev pub step_reply : ℕ → ℕ → List Shot → Option Looked → ℕ → Option Scan → ClusterReply
-step_reply last queued shots look admin None = refused NotScanning
-step_reply last queued shots look admin (Some scan) =
+abbrev pub step_reply : ℕ → Pools → List Shot → Option Looked → ℕ → Option Scan → ClusterReply
+step_reply last pools shots look admin None = refused NotScanning
+step_reply last pools shots look admin (Some scan) =
     if scan.owner == admin
-    then seat_reply last queued shots look (slice_get scan.page scan.steps)
+    then entry_reply last pools shots look (slice_get scan.page scan.steps)
     else refused NotScanning
 
--- how many logs a pool has after so many more
-abbrev pub queued_after : ℕ → List Shot → ℕ
-queued_after queued [] = queued
-queued_after queued (shot ∷ shots) = queued_after (one_more queued) shots
-
 -- what is told of a ticket that fired
-abbrev pub fired_by : Ticket → ℕ → ℕ → List Shot → FiredTicket
-fired_by ticket last queued shots = record {
+abbrev pub fired_by : Ticket → ℕ → Pools → List Shot → FiredTicket
+fired_by ticket last pools shots = record {
   job = ticket.job;
   edition = ticket.edition;
   due = ticket.due;
-  opened = map opened_of (placed_from last queued shots);
+  opened = map opened_of (placed_from last pools shots);
 }
 
 -- the tickets that a turn took, each with the logs that it opened
-abbrev pub fired_from : List Group → List Job → ℕ → ℕ → ℕ → List Ticket → List FiredTicket
-fired_from groups jobs at last queued [] = []
-fired_from groups jobs at last queued (ticket ∷ tickets) =
-    fired_by ticket last queued (shots_taken groups jobs at ticket)
-    ∷ fired_from groups jobs at (last + length (shots_taken groups jobs at ticket)) (queued_after queued (shots_taken groups jobs at ticket)) tickets
+abbrev pub fired_from : List Group → List Job → ℕ → ℕ → Pools → List Waiting → List FiredTicket
+fired_from groups jobs at last pools [] = []
+fired_from groups jobs at last pools (one ∷ ones) =
+    fired_by one.ticket last pools (shots_taken groups jobs at one)
+    ∷ fired_from groups jobs at (last + length (shots_taken groups jobs at one)) (pools_after pools (shots_taken groups jobs at one)) ones
 
 -- by the row of the job: the logs that a firing opens
-abbrev pub fire_reply : ℕ → ℕ → List Shot → Option Job → ClusterReply
-fire_reply last queued shots None = refused NoJob
-fire_reply last queued shots (Some row) =
-    if_ids last (length shots) (reply.Opened (map opened_of (placed_from last queued shots)))
+abbrev pub fire_reply : ℕ → Pools → List Shot → Option Job → ClusterReply
+fire_reply last pools shots None = refused NoJob
+fire_reply last pools shots (Some row) =
+    if_ids last (length shots) (reply.Opened (map opened_of (placed_from last pools shots)))
 
 -- the reply that an event has after accepted entries
 abbrev pub reply_after : History → ClusterEvent → ClusterReply
@@ -209,23 +220,23 @@ reply_after h (NodeAsk admin) = if_running (runs h admin) admin reply.Done
 reply_after h (AddGroup app kind addresses) = group_reply (length (groups_of h)) (last_group h)
 reply_after h (SetGroup id kind addresses) = done_if (is_some (group_with id (groups_of h))) NoGroup
 reply_after h (AddJob spec) =
-    job_reply (is_some (group_with spec.group (groups_of h))) (parsed spec.kind spec.schedule) (length (jobs_of h)) (last_job h)
+    job_reply (is_some (group_with spec.group (groups_of h))) (parsed spec.kind spec.schedule) (zone_in (settings_of h) spec) (length (jobs_of h)) (last_job h)
 reply_after h (UpdateJob at job spec) =
-    update_reply (is_some (group_with spec.group (groups_of h))) (settings_of h).offset at (parsed spec.kind spec.schedule) (job_with job (jobs_of h))
-reply_after h (StartJob at job) = running_reply (settings_of h).offset at (job_with job (jobs_of h))
+    update_reply (is_some (group_with spec.group (groups_of h))) (zone_in (settings_of h) spec) at (parsed spec.kind spec.schedule) (job_with job (jobs_of h))
+reply_after h (StartJob at job) = running_reply (settings_of h) at (job_with job (jobs_of h))
 reply_after h (StopJob job) = halt_reply (job_with job (jobs_of h))
 reply_after h (RemoveJob job) = done_if (is_some (job_with job (jobs_of h))) NoJob
 reply_after h (TriggerJob admin at job param) =
     if_running (runs h admin) admin
-    (fire_reply (last_log h) (length (queue_of h admin)) (shots_asked h at job param) (job_with job (jobs_of h)))
+    (fire_reply (last_log h) (pools_of h admin) (shots_asked h at job param) (job_with job (jobs_of h)))
 reply_after h (ScanBegin admin at) = if_running (runs h admin) admin (begin_reply (scan_of h) (page_of h at))
 reply_after h (ScanStep admin) =
     if_running (runs h admin) admin
-    (step_reply (last_log h) (length (queue_of h admin)) (shots_stepped h) (look_of h) admin (scan_of h))
+    (step_reply (last_log h) (pools_of h admin) (shots_stepped h) (look_of h) admin (scan_of h))
 reply_after h (Turn admin at) =
     if_running (runs h admin) admin
     (if_ids (last_log h) (length (shots_turned h admin at))
-    (reply.Fired (fired_from (groups_of h) (jobs_of h) at (last_log h) (length (queue_of h admin)) (taken admin (second_of at) (waiting h)))))
+    (reply.Fired (fired_from (groups_of h) (jobs_of h) at (last_log h) (pools_of h admin) (taken admin (second_of at) (waiting h)))))
 reply_after h (ReadLog log) = log_reply (log_with log (logs_of h))
 reply_after h Reopen =
     reply.Reopened (counted_to (over_running h (waiting_at h))) (over_running h (open_at h))

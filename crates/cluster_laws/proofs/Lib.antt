@@ -1,4 +1,3 @@
-pub mod CountLemmas
 pub mod TurnLemmas
 pub mod MomentLemmas
 pub mod FateLemmas
@@ -10,4 +9,8 @@ pub mod LostLemmas
 pub mod ToldLemmas
 pub mod FatesToldLemmas
 pub mod FiredLogLemmas
+pub mod OpenedLemmas
+pub mod CodeLemmas
+pub mod QueueLemmas
+pub mod ScanPlaceLemmas
 mod Rows

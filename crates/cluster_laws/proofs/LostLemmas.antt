@@ -4,20 +4,15 @@ use Rattle.std.specs.List.{count_by, sum, range_with_len, AllByRecursion}
 use Rattle.std.proofs.lemmas.Bool.{false≢true}
 use Rattle.std.proofs.lemmas.Bool.Decides.{nat_tests}
 use Rattle.std.proofs.lemmas.List.Sums.{sum_by-cons}
-use Rattle.job_values.specs.declared.cluster.ClusterEvent.TheVariants.{NodeStart, NodeStop, Reopen}
-use Rattle.job_values.specs.declared.cluster.ClusterEvent.{ClusterEvent}
-use Rattle.job_values.specs.declared.cluster.ClusterReply.{ClusterReply}
-use Rattle.cluster_history.specs.declared.limits.TheConstants.{ADMINS}
-use Rattle.cluster_history.specs.declared.ticket.Ticket.{Ticket}
-use Rattle.cluster_history.specs.History.{History, Begin, After, accepted, with_entry, is_refusal}
+use Rattle.job_values.specs.declared.limits.TheConstants.{ADMINS}
+use Rattle.cluster_history.specs.History.{History}
 use Rattle.cluster_history.specs.Nodes.{runs, admins}
-use Rattle.cluster_history.specs.Tickets.{waiting, waiting_at, is_at}
+use Rattle.cluster_history.specs.Tickets.{Waiting, waiting, waiting_at, is_at}
 use Rattle.cluster_history.specs.Replies.{over_running}
-use Rattle.cluster_history.specs.Runs.{IsAnswered}
-use Rattle.cluster_history.proofs.Running.{tickets_run}
+use Rattle.cluster_history.specs.Runs.{IsAnswered, AreWithin}
+use Rattle.cluster_history.proofs.Running.{tickets_run, runs_low}
 use Rattle.cluster_history.proofs.Reopened.{reopened_lost}
-use Rattle.cluster_laws.specs.Told.{StartsAdmins}
-use Rattle.cluster_laws.proofs.CountLemmas.{count-cons}
+use Rattle.cluster_history.proofs.Counting.{count-cons}
 
 sum-cons : (x : ℕ) (xs : List ℕ) → sum (x ∷ xs) ≡ x + sum xs
 sum-cons x xs = sum_by-cons (λ y. y) x xs
@@ -60,40 +55,8 @@ range-one : (n from count : ℕ) → from ≤ n → n < from + count → sum (ma
 range-one n from zero up below = absurd (omega arith)
 range-one n from (suc count) up below = range-step n from count (eqb n from) refl (λ above. range-one n (from + 1) count (omega arith) (omega arith)) up
 
--- each admin that runs is one of the sixteen
-started-low : (b low : Bool) (a admin : ℕ) → eqb a admin ≡ b → admin < ADMINS → (low ≡ true → a < ADMINS) → cond b true low ≡ true → a < ADMINS
-started-low true low a admin test below before is = let same : a ≡ admin = grind (arith, nat_tests) in omega arith
-started-low false low a admin test below before is = before is
-
-stopped-low : (b low : Bool) (a : ℕ) → (low ≡ true → a < ADMINS) → cond b false low ≡ true → a < ADMINS
-stopped-low true low a before is = absurd (false≢true is)
-stopped-low false low a before is = before is
-
-runs-low : (h : History) → StartsAdmins h → (a : ℕ) → runs h a ≡ true → a < ADMINS
-runs-low (Begin o) starts a is = absurd (false≢true is)
-runs-low (After h (NodeStart admin) r) starts a is = started-low (eqb a admin) (runs h a) a admin refl starts.1 (runs-low h starts.0 a) is
-runs-low (After h (NodeStop admin) r) starts a is = stopped-low (eqb a admin) (runs h a) a (runs-low h starts a) is
-runs-low (After h Reopen r) starts a is = absurd (false≢true is)
-runs-low (After h _ r) starts a is = runs-low h starts a is
-
-pub starts-before : (h : History) (e : ClusterEvent) (r : ClusterReply) → StartsAdmins (After h e r) → StartsAdmins h
-starts-before h (NodeStart admin) r starts = starts.0
-starts-before h _ r starts = starts
-
-starts-with : (h g : History) (e : ClusterEvent) (r : ClusterReply) → StartsAdmins (After h e r) → StartsAdmins g → StartsAdmins (After g e r)
-starts-with h g (NodeStart admin) r starts before = (before, starts.1)
-starts-with h g _ r starts before = before
-
-kept-starts : (b : Bool) (h g : History) (e : ClusterEvent) (r : ClusterReply) → StartsAdmins (After h e r) → StartsAdmins g → StartsAdmins (with_entry b g e r)
-kept-starts true h g e r starts before = before
-kept-starts false h g e r starts before = starts-with h g e r starts before
-
-pub accepted-starts : (h : History) → StartsAdmins h → StartsAdmins (accepted h)
-accepted-starts (Begin o) starts = tt
-accepted-starts (After h e r) starts = kept-starts (is_refusal r) h (accepted h) e r starts (accepted-starts h (starts-before h e r starts))
-
 -- a ticket counts once among the admins
-count-admins : (tickets : List Ticket) → AllByRecursion (λ ticket. ticket.admin < ADMINS) tickets → sum (map (λ a. count_by (is_at a) tickets) admins) ≡ length tickets
+count-admins : (tickets : List Waiting) → AllByRecursion (λ ticket. ticket.admin < ADMINS) tickets → sum (map (λ a. count_by (is_at a) tickets) admins) ≡ length tickets
 count-admins [] low = sum-zero (λ a. 0) (λ a. refl) admins
 count-admins (ticket ∷ tickets) low =
     omega (
@@ -103,10 +66,10 @@ count-admins (ticket ∷ tickets) low =
       count-admins tickets low.1,
     )
 
-low-admins : (f : ℕ → Bool) (tickets : List Ticket) → ((a : ℕ) → f a ≡ true → a < ADMINS) → AllByRecursion (λ ticket. f ticket.admin ≡ true) tickets → AllByRecursion (λ ticket. ticket.admin < ADMINS) tickets
+low-admins : (f : ℕ → Bool) (tickets : List Waiting) → ((a : ℕ) → f a ≡ true → a < ADMINS) → AllByRecursion (λ ticket. f ticket.admin ≡ true) tickets → AllByRecursion (λ ticket. ticket.admin < ADMINS) tickets
 low-admins f [] low run = tt
 low-admins f (ticket ∷ tickets) low run = (low ticket.admin run.0, low-admins f tickets low run.1)
 
 -- over the admins that run, all waiting tickets are counted
-pub lost-all : (h : History) → IsAnswered h → StartsAdmins h → over_running h (waiting_at h) ≡ length (waiting h)
-lost-all h answered starts = reopened_lost h answered ∙ count-admins (waiting h) (low-admins (runs h) (waiting h) (runs-low h starts) (tickets_run h answered))
+pub lost-all : (h : History) → IsAnswered h → AreWithin h → over_running h (waiting_at h) ≡ length (waiting h)
+lost-all h answered within = reopened_lost h answered ∙ count-admins (waiting h) (low-admins (runs h) (waiting h) (runs_low h within) (tickets_run h answered))

@@ -2,19 +2,20 @@
 use Rattle.std.proofs.Common.{◌≡◌, ℕ, ◌+◌, ◌-◌, ◌<◌, ◌≤◌, List, [], ◌∷◌, Bool, true, false, cond, eqb, ltb, length, Option, Some, None, refl, sym, ap, ◌∙◌, subst, arith}
 use Rattle.std.specs.List.{slice_get}
 use Rattle.std.proofs.lemmas.Bool.Decides.{nat_tests}
-use Rattle.job_values.specs.declared.cluster.ClusterEvent.TheVariants.{NodeStop, ScanBegin, ScanStep, Reopen}
-use Rattle.job_values.specs.declared.cluster.ClusterReply.{ClusterReply}
-use Rattle.job_values.specs.declared.cluster.ClusterRefusal.TheVariants.{NotScanning}
+use Rattle.job_events.specs.declared.cluster.ClusterEvent.TheVariants.{NodeStop, ScanBegin, ScanStep, Reopen}
+use Rattle.job_events.specs.declared.cluster.ClusterReply.{ClusterReply}
+use Rattle.job_events.specs.declared.cluster.ClusterRefusal.TheVariants.{NotScanning}
 use Rattle.cluster_history.specs.declared.scan.Scan.{Scan}
-use Rattle.cluster_history.specs.declared.scan.Seat.{Seat}
+use Rattle.cluster_history.specs.declared.scan.PageEntry.{PageEntry}
 use Rattle.cluster_history.specs.History.{History, Begin, After, accepted, is_refusal}
 use Rattle.cluster_history.specs.Nodes.{runs}
 use Rattle.cluster_history.specs.Pages.{begun, stepped, unless_owner}
 use Rattle.cluster_history.specs.Looks.{Looked}
 use Rattle.cluster_history.specs.Jobs.{scan_of, look_of, page_of}
 use Rattle.cluster_history.specs.Firings.{Shot, shots_stepped}
-use Rattle.cluster_history.specs.Logs.{last_log, queue_of}
-use Rattle.cluster_history.specs.Replies.{if_running, begin_reply, step_reply, seat_reply, refused}
+use Rattle.cluster_history.specs.Openings.{Pools}
+use Rattle.cluster_history.specs.Logs.{last_log, pools_of}
+use Rattle.cluster_history.specs.Replies.{if_running, begin_reply, step_reply, entry_reply, refused}
 use Rattle.cluster_history.specs.Runs.{IsAnswered}
 use Rattle.cluster_history.proofs.Answered.{legal_answered}
 use Rattle.cluster_laws.specs.Owners.{OpenScan, with_steps, told_steps, one_less, unless_stopped, open_scan, owner_in, OneScan}
@@ -26,17 +27,17 @@ Agrees None (Some told) = ⊥
 Agrees (Some scan) None = ⊥
 Agrees (Some scan) (Some told) = (scan.owner ≡ told.owner) × (scan.steps + told.left ≡ length scan.page) × (0 < told.left)
 
-begin-told : (b : Bool) (admin : ℕ) (scan : Option Scan) (page : List Seat) (r : ClusterReply) → r ≡ if_running b admin (begin_reply scan page) → is_refusal r ≡ false → told_steps r ≡ length page
+begin-told : (b : Bool) (admin : ℕ) (scan : Option Scan) (page : List PageEntry) (r : ClusterReply) → r ≡ if_running b admin (begin_reply scan page) → is_refusal r ≡ false → told_steps r ≡ length page
 begin-told false admin scan page r is ok = (cc)
 begin-told true admin None page r is ok = ap told_steps is
 begin-told true admin (Some scan) page r is ok = (cc)
 
-begin-agrees : (admin at : ℕ) (page : List Seat) → Agrees (begun admin at page) (with_steps admin (length page))
+begin-agrees : (admin at : ℕ) (page : List PageEntry) → Agrees (begun admin at page) (with_steps admin (length page))
 begin-agrees admin at [] = tt
-begin-agrees admin at (seat ∷ seats) = by (eqb (length (seat ∷ seats)) 0) refl
+begin-agrees admin at (entry ∷ entries) = by (eqb (length (entry ∷ entries)) 0) refl
   where
-    by : (b : Bool) → eqb (length (seat ∷ seats)) 0 ≡ b → Agrees (begun admin at (seat ∷ seats)) (cond b None (Some (record { owner = admin; left = length (seat ∷ seats) })))
-    by true test = let never : length (seat ∷ seats) ≡ 0 = grind (arith, nat_tests) in omega arith
+    by : (b : Bool) → eqb (length (entry ∷ entries)) 0 ≡ b → Agrees (begun admin at (entry ∷ entries)) (cond b None (Some (record { owner = admin; left = length (entry ∷ entries) })))
+    by true test = let never : length (entry ∷ entries) ≡ 0 = grind (arith, nat_tests) in omega arith
     by false test = (refl, omega arith, omega arith)
 
 step-agrees_by : (scan : Scan) (told : OpenScan) (more over : Bool) → ltb (scan.steps + 1) (length scan.page) ≡ more → eqb (told.left - 1) 0 ≡ over → Agrees (Some scan) (Some told)
@@ -86,7 +87,7 @@ scan-agrees (After h Reopen r) answered = tt
 scan-agrees (After h _ r) answered = scan-agrees h answered.0
 
 -- a begin is accepted only while no scan is open
-begin-free : (b : Bool) (admin : ℕ) (scan : Option Scan) (told : Option OpenScan) (page : List Seat) → Agrees scan told → is_refusal (if_running b admin (begin_reply scan page)) ≡ false → told ≡ None
+begin-free : (b : Bool) (admin : ℕ) (scan : Option Scan) (told : Option OpenScan) (page : List PageEntry) → Agrees scan told → is_refusal (if_running b admin (begin_reply scan page)) ≡ false → told ≡ None
 begin-free false admin scan told page same ok = (cc)
 begin-free true admin (Some scan) told page same ok = (cc)
 begin-free true admin None None page same ok = refl
@@ -97,19 +98,19 @@ step-owned : (same : Bool) (admin : ℕ) (scan : Scan) (answer : ClusterReply) �
 step-owned false admin scan answer test ok = (cc)
 step-owned true admin scan answer test ok = grind (arith, nat_tests)
 
-step-free : (b : Bool) (admin last queued : ℕ) (shots : List Shot) (look : Option Looked) (scan : Option Scan) (told : Option OpenScan) → Agrees scan told
-    → is_refusal (if_running b admin (step_reply last queued shots look admin scan)) ≡ false → owner_in told ≡ Some admin
-step-free false admin last queued shots look scan told same ok = (cc)
-step-free true admin last queued shots look None told same ok = (cc)
-step-free true admin last queued shots look (Some scan) None same ok = absurd same
-step-free true admin last queued shots look (Some scan) (Some told) same ok =
-    let owned : scan.owner ≡ admin = step-owned (eqb scan.owner admin) admin scan (seat_reply last queued shots look (slice_get scan.page scan.steps)) refl ok in
+step-free : (b : Bool) (admin last : ℕ) (pools : Pools) (shots : List Shot) (look : Option Looked) (scan : Option Scan) (told : Option OpenScan) → Agrees scan told
+    → is_refusal (if_running b admin (step_reply last pools shots look admin scan)) ≡ false → owner_in told ≡ Some admin
+step-free false admin last pools shots look scan told same ok = (cc)
+step-free true admin last pools shots look None told same ok = (cc)
+step-free true admin last pools shots look (Some scan) None same ok = absurd same
+step-free true admin last pools shots look (Some scan) (Some told) same ok =
+    let owned : scan.owner ≡ admin = step-owned (eqb scan.owner admin) admin scan (entry_reply last pools shots look (slice_get scan.page scan.steps)) refl ok in
     ap (λ n. Some n) (sym same.0 ∙ owned)
 
 pub one-scan : OneScan
 one-scan h (ScanBegin admin at) reply legal taken =
-    begin-free (runs (accepted h) admin) admin (scan_of (accepted h)) (open_scan (accepted h)) (page_of (accepted h) at) (scan-agrees (accepted h) (legal_answered h legal.0)) (ap is_refusal (sym legal.1) ∙ taken)
+    begin-free (runs (accepted h) admin) admin (scan_of (accepted h)) (open_scan (accepted h)) (page_of (accepted h) at) (scan-agrees (accepted h) (legal_answered h legal.0)) (ap is_refusal (sym legal.2) ∙ taken)
 one-scan h (ScanStep admin) reply legal taken =
-    step-free (runs (accepted h) admin) admin (last_log (accepted h)) (length (queue_of (accepted h) admin)) (shots_stepped (accepted h)) (look_of (accepted h)) (scan_of (accepted h)) (open_scan (accepted h))
-    (scan-agrees (accepted h) (legal_answered h legal.0)) (ap is_refusal (sym legal.1) ∙ taken)
+    step-free (runs (accepted h) admin) admin (last_log (accepted h)) (pools_of (accepted h) admin) (shots_stepped (accepted h)) (look_of (accepted h)) (scan_of (accepted h)) (open_scan (accepted h))
+    (scan-agrees (accepted h) (legal_answered h legal.0)) (ap is_refusal (sym legal.2) ∙ taken)
 one-scan h _ reply legal taken = tt

@@ -1,17 +1,16 @@
 -- Each step puts at most one ticket, and no ticket is put twice.
 use Rattle.std.proofs.Common.{◌≡◌, ℕ, ◌+◌, ◌≤◌, List, [], ◌∷◌, ◌++◌, eqb, Option, Some, None, map, refl, sym, subst, arith, append-nil}
 use Rattle.std.specs.List.{count_by}
-use Rattle.job_values.specs.declared.cluster.ClusterEvent.{ClusterEvent}
-use Rattle.job_values.specs.declared.cluster.ClusterEvent.TheVariants.{ScanStep}
-use Rattle.cluster_history.specs.declared.ticket.Ticket.{Ticket}
-use Rattle.cluster_history.specs.History.{History, Begin, After}
+use Rattle.job_events.specs.declared.cluster.ClusterEvent.{ClusterEvent}
+use Rattle.job_events.specs.declared.cluster.ClusterEvent.TheVariants.{ScanStep}
+use Rattle.cluster_history.specs.History.{History, Begin, After, places}
 use Rattle.cluster_history.specs.Looks.{Looked}
 use Rattle.cluster_history.specs.Jobs.{scan_of, look_of}
-use Rattle.cluster_history.specs.Tickets.{put_behind, put_due}
+use Rattle.cluster_history.specs.Tickets.{Waiting, put_behind, put_due}
 use Rattle.cluster_laws.specs.Dues.{dues_of}
-use Rattle.cluster_laws.specs.Fates.{Put, places, aged, put_new, puts_of}
+use Rattle.cluster_laws.specs.Fates.{Put, aged, put_new, puts_of}
 use Rattle.cluster_laws.specs.Told.{PlacesRise, is_put_for}
-use Rattle.cluster_laws.proofs.CountLemmas.{count-append, count-map}
+use Rattle.cluster_history.proofs.Counting.{count-append, count-map}
 use Rattle.cluster_laws.proofs.OnceLemmas.{waits_for, step-covers}
 
 -- a ticket keeps its place
@@ -23,7 +22,7 @@ rise-more : (low last : ℕ) (puts : List Put) → PlacesRise low puts last → 
 rise-more low last [] rise = let end : low ≤ last = rise in omega arith
 rise-more low last (put ∷ puts) rise = (rise.0, rise-more put.place last puts rise.1)
 
-rise-push : (low last : ℕ) (ticket : Ticket) (puts : List Put) → PlacesRise low puts last → PlacesRise low (puts ++ put_new (last + 1) ticket ∷ []) (last + 1)
+rise-push : (low last : ℕ) (ticket : Waiting) (puts : List Put) → PlacesRise low puts last → PlacesRise low (puts ++ put_new (last + 1) ticket ∷ []) (last + 1)
 rise-push low last ticket [] rise = let end : low ≤ last = rise in (omega arith, omega arith)
 rise-push low last ticket (put ∷ puts) rise = (rise.0, rise-push put.place last ticket puts rise.1)
 
@@ -32,7 +31,7 @@ rise-none low last puts rise = let P : List Put → Type 0 = λ ps. PlacesRise l
 
 rise-due : (low last admin job edition : ℕ) (put : Option ℕ) (puts : List Put) → PlacesRise low puts last → PlacesRise low (puts ++ map (put_new (last + 1)) (put_due admin job edition put [])) (last + 1)
 rise-due low last admin job edition None puts rise = rise-none low last puts rise
-rise-due low last admin job edition (Some due) puts rise = rise-push low last (record { admin = admin; job = job; edition = edition; due = due }) puts rise
+rise-due low last admin job edition (Some due) puts rise = rise-push low last (record { admin = admin; ticket = record { job = job; edition = edition; due = due } }) puts rise
 
 rise-look : (low last admin : ℕ) (look : Option Looked) (puts : List Put) → PlacesRise low puts last → PlacesRise low (puts ++ map (put_new (last + 1)) (put_behind admin look [])) (last + 1)
 rise-look low last admin None puts rise = rise-none low last puts rise

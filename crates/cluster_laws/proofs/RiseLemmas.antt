@@ -3,23 +3,26 @@ use Rattle.std.proofs.Common.{◌≡◌, ◌≢◌, ℕ, ◌+◌, ◌<◌, ◌�
 use Rattle.std.proofs.lemmas.Bool.Decides.{nat_tests}
 use Rattle.job_values.specs.declared.words.Misfire.{Misfire}
 use Rattle.job_values.specs.declared.words.Case.TheVariants as case
-use Rattle.job_values.specs.declared.cluster.ClusterEvent.TheVariants.{AddJob, UpdateJob, StartJob, StopJob, ScanStep}
+use Rattle.job_events.specs.declared.cluster.ClusterEvent.TheVariants.{AddJob, UpdateJob, StartJob, StopJob, ScanStep}
 use Rattle.job_records.specs.declared.job.Job.{Job}
 use Rattle.job_records.specs.Rows.{IsRising}
 use Rattle.job_records.proofs.RowLemmas.{rising-ends}
+use Rattle.zone_texts.specs.declared.zone.Zone.{Zone}
 use Rattle.cron_schedule.specs.declared.plan.Plan.{Plan}
 use Rattle.cron_schedule.specs.After.{time_after, TimesRise}
 use Rattle.misfire_rules.specs.declared.decision.Decision.{Decision}
 use Rattle.misfire_rules.specs.Decide.{decided, misfire_decision, late_decision, late_with, early_decision}
+use Rattle.cluster_history.specs.declared.settings.Settings.{Settings}
 use Rattle.cluster_history.specs.declared.scan.Scan.{Scan}
-use Rattle.cluster_history.specs.declared.scan.Seat.{Seat}
+use Rattle.cluster_history.specs.declared.scan.PageEntry.{PageEntry}
 use Rattle.cluster_history.specs.History.{History, Begin, After, opening_of, settings_of}
-use Rattle.cluster_history.specs.Looks.{Looked, look_in, look_seat, look_row, look_due, next_looked, job_with}
+use Rattle.cluster_history.specs.Zones.{zone_of}
+use Rattle.cluster_history.specs.Looks.{Looked, look_in, look_entry, look_row, look_due, next_looked, job_with}
 use Rattle.cluster_history.specs.Jobs.{last_job, ids_of, jobs_of, row_of, spec_of, edition_of, plan_of, next_of, scan_of, look_of, first_time, updated_time}
 use Rattle.cluster_history.specs.Runs.{OpensWell}
 use Rattle.cluster_history.proofs.RowIds.{ids_rise}
 use Rattle.cluster_laws.specs.Dues.{times_by, times_of, dues_looked, dues_of, FallsFrom, Falls}
-use Rattle.cluster_laws.proofs.MomentLemmas.{LooksRight, seat-right, some-same}
+use Rattle.cluster_laws.proofs.MomentLemmas.{LooksRight, entry-right, some-same}
 use Rattle.std.specs.List.{slice_get}
 
 -- all times are below the next one, where there is one
@@ -35,37 +38,37 @@ pub under-falls : (next : Option ℕ) (ts : List ℕ) → Under next ts → Fall
 under-falls None ts h = h
 under-falls (Some n) ts h = falls-from n ts h
 
-later-by : (rise : TimesRise) (plan : Plan) (offset : ℤ) (now t : ℕ) (ts : List ℕ) (next : Option ℕ) → time_after plan offset now ≡ next → t ≤ now → FallsFrom t ts → Under next (t ∷ ts)
-later-by rise plan offset now t ts None e before falls = falls
-later-by rise plan offset now t ts (Some n) e before falls = let above : now < n = (rise plan offset now n e).0 in (omega arith, falls)
+later-by : (rise : TimesRise) (plan : Plan) (zone : Zone) (now t : ℕ) (ts : List ℕ) (next : Option ℕ) → time_after plan zone now ≡ next → t ≤ now → FallsFrom t ts → Under next (t ∷ ts)
+later-by rise plan zone now t ts None e before falls = falls
+later-by rise plan zone now t ts (Some n) e before falls = let above : now < n = (rise plan zone now n e).0 in (omega arith, falls)
 
 -- the time after a moment is above a time up to it
-later : (rise : TimesRise) (plan : Plan) (offset : ℤ) (now t : ℕ) (ts : List ℕ) → t ≤ now → FallsFrom t ts → Under (time_after plan offset now) (t ∷ ts)
-later rise plan offset now t ts before falls = later-by rise plan offset now t ts (time_after plan offset now) refl before falls
+later : (rise : TimesRise) (plan : Plan) (zone : Zone) (now t : ℕ) (ts : List ℕ) → t ≤ now → FallsFrom t ts → Under (time_after plan zone now) (t ∷ ts)
+later rise plan zone now t ts before falls = later-by rise plan zone now t ts (time_after plan zone now) refl before falls
 
 -- the new next time is above the times of a look and those before
 abbrev Keeps : ℕ → List ℕ → Decision → Type 0
 Keeps due ts d = Under d.next (times_by d.case due d.put ++ ts)
 
-late-put : (rise : TimesRise) (plan : Plan) (offset : ℤ) (now near due : ℕ) (ts : List ℕ) (b : Bool) → due < near → FallsFrom due ts
-    → Keeps due ts (cond b (record { case = case.Late; fire_now = true; put = Some near; next = time_after plan offset near }) (record { case = case.Late; fire_now = true; put = None; next = Some near }))
-late-put rise plan offset now near due ts true above falls = later rise plan offset near near (due ∷ ts) (omega arith) (above, falls)
-late-put rise plan offset now near due ts false above falls = (above, falls)
+late-put : (rise : TimesRise) (plan : Plan) (zone : Zone) (now near due : ℕ) (ts : List ℕ) (b : Bool) → due < near → FallsFrom due ts
+    → Keeps due ts (cond b (record { case = case.Late; fire_now = true; put = Some near; next = time_after plan zone near }) (record { case = case.Late; fire_now = true; put = None; next = Some near }))
+late-put rise plan zone now near due ts true above falls = later rise plan zone near near (due ∷ ts) (omega arith) (above, falls)
+late-put rise plan zone now near due ts false above falls = (above, falls)
 
-late-keeps : (rise : TimesRise) (plan : Plan) (offset : ℤ) (now due : ℕ) (ts : List ℕ) (after : Option ℕ) → time_after plan offset now ≡ after → due < now → FallsFrom due ts → Keeps due ts (late_with plan offset now after)
-late-keeps rise plan offset now due ts None e before falls = falls
-late-keeps rise plan offset now due ts (Some near) e before falls =
-    let above : now < near = (rise plan offset now near e).0 in
-    late-put rise plan offset now near due ts (nat_lt near (now + 5000)) (omega arith) falls
+late-keeps : (rise : TimesRise) (plan : Plan) (zone : Zone) (now due : ℕ) (ts : List ℕ) (after : Option ℕ) → time_after plan zone now ≡ after → due < now → FallsFrom due ts → Keeps due ts (late_with plan zone now after)
+late-keeps rise plan zone now due ts None e before falls = falls
+late-keeps rise plan zone now due ts (Some near) e before falls =
+    let above : now < near = (rise plan zone now near e).0 in
+    late-put rise plan zone now near due ts (nat_lt near (now + 5000)) (omega arith) falls
 
-decided-by : (rise : TimesRise) (plan : Plan) (misfire : Misfire) (offset : ℤ) (now due : ℕ) (ts : List ℕ) (missed late : Bool) → nat_lt (due + 5000) now ≡ missed → nat_lt due now ≡ late → FallsFrom due ts
-    → Keeps due ts (cond missed (misfire_decision plan misfire offset now) (cond late (late_decision plan offset now) (early_decision plan offset due)))
-decided-by rise plan misfire offset now due ts true late e f falls = let before : due + 5000 < now = grind (arith, nat_tests) in later rise plan offset now due ts (omega arith) falls
-decided-by rise plan misfire offset now due ts false true e f falls = let before : due < now = grind (arith, nat_tests) in late-keeps rise plan offset now due ts (time_after plan offset now) refl before falls
-decided-by rise plan misfire offset now due ts false false e f falls = later rise plan offset due due ts (omega arith) falls
+decided-by : (rise : TimesRise) (plan : Plan) (misfire : Misfire) (zone : Zone) (now due : ℕ) (ts : List ℕ) (missed late : Bool) → nat_lt (due + 5000) now ≡ missed → nat_lt due now ≡ late → FallsFrom due ts
+    → Keeps due ts (cond missed (misfire_decision plan misfire zone now) (cond late (late_decision plan zone now) (early_decision plan zone due)))
+decided-by rise plan misfire zone now due ts true late e f falls = let before : due + 5000 < now = grind (arith, nat_tests) in later rise plan zone now due ts (omega arith) falls
+decided-by rise plan misfire zone now due ts false true e f falls = let before : due < now = grind (arith, nat_tests) in late-keeps rise plan zone now due ts (time_after plan zone now) refl before falls
+decided-by rise plan misfire zone now due ts false false e f falls = later rise plan zone due due ts (omega arith) falls
 
-pub decided-keeps : (rise : TimesRise) (plan : Plan) (misfire : Misfire) (offset : ℤ) (now due : ℕ) (ts : List ℕ) → FallsFrom due ts → Keeps due ts (decided due plan misfire offset now)
-decided-keeps rise plan misfire offset now due ts falls = decided-by rise plan misfire offset now due ts (nat_lt (due + 5000) now) (nat_lt due now) refl refl falls
+pub decided-keeps : (rise : TimesRise) (plan : Plan) (misfire : Misfire) (zone : Zone) (now due : ℕ) (ts : List ℕ) → FallsFrom due ts → Keeps due ts (decided due plan misfire zone now)
+decided-keeps rise plan misfire zone now due ts falls = decided-by rise plan misfire zone now due ts (nat_lt (due + 5000) now) (nat_lt due now) refl refl falls
 
 -- no present id is above the last one
 abbrev LowIds : ℕ → List ℕ → Type 0
@@ -88,23 +91,23 @@ low-found h last job [] row low e = (cc)
 low-found h last job (j ∷ ids) row low e = low-here h last job j (job_with job (map (row_of h) ids)) row (eqb j job) low.0 (low-found h last job ids row low.1) e
 
 -- a look is at a job up to the last one
-low-due : (last : ℕ) (offset : ℤ) (at : ℕ) (row : Job) (next : Option ℕ) (look : Looked) → row.id ≤ last → look_due offset at row next ≡ Some look → look.row.id ≤ last
-low-due last offset at row None look low e = (cc)
-low-due last offset at row (Some due) look low e =
-    let same : record { row = row; due = due; decision = decided due row.schedule row.spec.misfire offset at } ≡ look = some-same _ look e in
+low-due : (last : ℕ) (settings : Settings) (at : ℕ) (row : Job) (next : Option ℕ) (look : Looked) → row.id ≤ last → look_due settings at row next ≡ Some look → look.row.id ≤ last
+low-due last settings at row None look low e = (cc)
+low-due last settings at row (Some due) look low e =
+    let same : record { row = row; due = due; decision = decided due row.schedule row.spec.misfire (zone_of settings row.spec) at } ≡ look = some-same _ look e in
     let id : row.id ≡ look.row.id = ap (λ (l : Looked). l.row.id) same in omega arith
 
-low-edition : (last : ℕ) (offset : ℤ) (at : ℕ) (row : Job) (b : Bool) (look : Looked) → row.id ≤ last → cond b (look_due offset at row row.next) None ≡ Some look → look.row.id ≤ last
-low-edition last offset at row true look low e = low-due last offset at row row.next look low e
-low-edition last offset at row false look low e = (cc)
+low-edition : (last : ℕ) (settings : Settings) (at : ℕ) (row : Job) (b : Bool) (look : Looked) → row.id ≤ last → cond b (look_due settings at row row.next) None ≡ Some look → look.row.id ≤ last
+low-edition last settings at row true look low e = low-due last settings at row row.next look low e
+low-edition last settings at row false look low e = (cc)
 
-low-row : (h : History) (last : ℕ) (offset : ℤ) (at : ℕ) (seat : Seat) (found : Option Job) (look : Looked) → LowIds last (ids_of h) → job_with seat.job (jobs_of h) ≡ found → look_row offset at seat.edition found ≡ Some look → look.row.id ≤ last
-low-row h last offset at seat None look low f e = (cc)
-low-row h last offset at seat (Some row) look low f e = low-edition last offset at row (eqb row.edition seat.edition) look (low-found h last seat.job (ids_of h) row low f) e
+low-row : (h : History) (last : ℕ) (settings : Settings) (at : ℕ) (entry : PageEntry) (found : Option Job) (look : Looked) → LowIds last (ids_of h) → job_with entry.job (jobs_of h) ≡ found → look_row settings at entry.edition found ≡ Some look → look.row.id ≤ last
+low-row h last settings at entry None look low f e = (cc)
+low-row h last settings at entry (Some row) look low f e = low-edition last settings at row (eqb row.edition entry.edition) look (low-found h last entry.job (ids_of h) row low f) e
 
-low-seat : (h : History) (last : ℕ) (offset : ℤ) (at : ℕ) (seat : Option Seat) (look : Looked) → LowIds last (ids_of h) → look_seat offset at (jobs_of h) seat ≡ Some look → look.row.id ≤ last
-low-seat h last offset at None look low e = (cc)
-low-seat h last offset at (Some seat) look low e = low-row h last offset at seat (job_with seat.job (jobs_of h)) look low refl e
+low-entry : (h : History) (last : ℕ) (settings : Settings) (at : ℕ) (entry : Option PageEntry) (look : Looked) → LowIds last (ids_of h) → look_entry settings at (jobs_of h) entry ≡ Some look → look.row.id ≤ last
+low-entry h last settings at None look low e = (cc)
+low-entry h last settings at (Some entry) look low e = low-row h last settings at entry (job_with entry.job (jobs_of h)) look low refl e
 
 -- what is kept of a job in an edition along a history
 pub record Holds (j e last edition : ℕ) (next : Option ℕ) (dues : List ℕ) : Type 0 where
@@ -153,7 +156,7 @@ holds-looked rise h scan look j e dues true true t u right low holds =
     let P : Option ℕ → Type 0 = λ n. Under n dues in
     let before : FallsFrom look.due dues = subst P due (holds.under edition) in
     let D : Decision → Type 0 = λ d. Keeps look.due dues d in
-    let after : Keeps look.due dues look.decision = subst D (sym right.decision) (decided-keeps rise look.row.schedule look.row.spec.misfire (settings_of h).offset scan.at look.due dues before) in
+    let after : Keeps look.due dues look.decision = subst D (sym right.decision) (decided-keeps rise look.row.schedule look.row.spec.misfire (zone_of (settings_of h) look.row.spec) scan.at look.due dues before) in
     record {
       falls = under-falls look.decision.next (times_of look ++ dues) after;
       under = λ same. after;
@@ -161,19 +164,19 @@ holds-looked rise h scan look j e dues true true t u right low holds =
       unborn = λ above. absurd (omega arith);
     }
 
-holds-stepped : (rise : TimesRise) (h : History) (scan : Option Scan) (look : Option Looked) (j e : ℕ) (dues : List ℕ) → look_in (settings_of h).offset scan (jobs_of h) ≡ look → LowIds (last_job h) (ids_of h)
+holds-stepped : (rise : TimesRise) (h : History) (scan : Option Scan) (look : Option Looked) (j e : ℕ) (dues : List ℕ) → look_in (settings_of h) scan (jobs_of h) ≡ look → LowIds (last_job h) (ids_of h)
     → Holds j e (last_job h) (edition_of h j) (next_of h j) dues → Holds j e (last_job h) (edition_of h j) (next_looked look j (next_of h j)) (dues_looked look j e dues)
 holds-stepped rise h scan None j e dues is low holds = holds
 holds-stepped rise h None (Some look) j e dues is low holds = (cc)
 holds-stepped rise h (Some scan) (Some look) j e dues is low holds =
-    holds-looked rise h scan look j e dues (eqb j look.row.id) (eqb e look.row.edition) refl refl (seat-right h scan (slice_get scan.page scan.steps) look is)
-    (low-seat h (last_job h) (settings_of h).offset scan.at (slice_get scan.page scan.steps) look low is) holds
+    holds-looked rise h scan look j e dues (eqb j look.row.id) (eqb e look.row.edition) refl refl (entry-right h scan (slice_get scan.page scan.steps) look is)
+    (low-entry h (last_job h) (settings_of h) scan.at (slice_get scan.page scan.steps) look low is) holds
 
 pub dues-hold : (rise : TimesRise) (h : History) (j e : ℕ) → OpensWell (opening_of h) → Holds j e (last_job h) (edition_of h j) (next_of h j) (dues_of h j e)
 dues-hold rise (Begin o) j e well = record { falls = tt; under = λ same. under-empty (next_of (Begin o) j); fresh = λ lower. refl; unborn = λ above. refl }
 dues-hold rise (After h (AddJob spec) r) j e well = holds-added j e (last_job h) (edition_of h j) (next_of h j) (dues_of h j e) (eqb j (last_job h + 1)) refl (dues-hold rise h j e well)
-dues-hold rise (After h (UpdateJob at job spec) r) j e well = holds-started j e (last_job h) (edition_of h j) (next_of h j) (updated_time (settings_of h).offset (plan_of spec) at (next_of h j)) (dues_of h j e) (eqb j job) (dues-hold rise h j e well)
-dues-hold rise (After h (StartJob at job) r) j e well = holds-started j e (last_job h) (edition_of h j) (next_of h j) (first_time (settings_of h).offset (plan_of (spec_of h j)) at) (dues_of h j e) (eqb j job) (dues-hold rise h j e well)
+dues-hold rise (After h (UpdateJob at job spec) r) j e well = holds-started j e (last_job h) (edition_of h j) (next_of h j) (updated_time (zone_of (settings_of h) spec) (plan_of spec) at (next_of h j)) (dues_of h j e) (eqb j job) (dues-hold rise h j e well)
+dues-hold rise (After h (StartJob at job) r) j e well = holds-started j e (last_job h) (edition_of h j) (next_of h j) (first_time (zone_of (settings_of h) (spec_of h j)) (plan_of (spec_of h j)) at) (dues_of h j e) (eqb j job) (dues-hold rise h j e well)
 dues-hold rise (After h (StopJob job) r) j e well = holds-started j e (last_job h) (edition_of h j) (next_of h j) None (dues_of h j e) (eqb j job) (dues-hold rise h j e well)
 dues-hold rise (After h (ScanStep admin) r) j e well = holds-stepped rise h (scan_of h) (look_of h) j e (dues_of h j e) refl (ids-low h well) (dues-hold rise h j e well)
 dues-hold rise (After h _ r) j e well = dues-hold rise h j e well

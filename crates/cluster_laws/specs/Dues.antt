@@ -2,13 +2,12 @@
 use Rattle.std.specs.Prelude.{ℕ, ◌+◌, ◌<◌, ◌≤◌, ◌==◌, List, [], ◌∷◌, ◌++◌, map, filter, count_by, Bool, ◌&&◌, is_some, Option, Some, None, if◌then◌else◌}
 use Rattle.job_values.specs.declared.words.Case.{Case}
 use Rattle.job_values.specs.declared.words.Case.TheVariants as case
-use Rattle.job_values.specs.declared.cluster.ClusterEvent.{ClusterEvent}
-use Rattle.job_values.specs.declared.cluster.ClusterEvent.TheVariants.{ScanStep, Turn}
-use Rattle.cluster_history.specs.declared.ticket.Ticket.{Ticket}
+use Rattle.job_events.specs.declared.cluster.ClusterEvent.{ClusterEvent}
+use Rattle.job_events.specs.declared.cluster.ClusterEvent.TheVariants.{ScanStep, Turn}
 use Rattle.cluster_history.specs.History.{History, Begin, After, accepted}
 use Rattle.cluster_history.specs.Looks.{Looked, job_with}
 use Rattle.cluster_history.specs.Jobs.{jobs_of, look_of}
-use Rattle.cluster_history.specs.Tickets.{waiting, taken, second_of}
+use Rattle.cluster_history.specs.Tickets.{Waiting, waiting, taken, second_of}
 use Rattle.cluster_history.specs.Runs.{IsLegal}
 
 -- a late look's put time stands before its due time
@@ -57,14 +56,14 @@ fired_now (Some look) =
     if look.decision.fire_now then record { job = look.row.id; edition = look.row.edition; due = look.due } ∷ [] else []
 
 -- a ticket fires for its due time
-abbrev pub fired_for : Ticket → DueFiring
-fired_for ticket = record { job = ticket.job; edition = ticket.edition; due = ticket.due }
+abbrev pub fired_for : Waiting → DueFiring
+fired_for one = record { job = one.ticket.job; edition = one.ticket.edition; due = one.ticket.due }
 
 -- the firings of an entry: a look that fires now, and the tickets that a turn takes and whose jobs are present
 abbrev pub firings_of : History → ClusterEvent → List DueFiring
 firings_of h (ScanStep admin) = fired_now (look_of h)
 firings_of h (Turn admin at) =
-    map fired_for (filter (λ ticket. is_some (job_with ticket.job (jobs_of h))) (taken admin (second_of at) (waiting h)))
+    map fired_for (filter (λ one. is_some (job_with one.ticket.job (jobs_of h))) (taken admin (second_of at) (waiting h)))
 firings_of h _ = []
 
 -- whether a firing is of this job in this edition, for this due time

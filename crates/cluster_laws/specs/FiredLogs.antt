@@ -3,7 +3,7 @@ use Rattle.std.specs.Prelude.{◌≡◌, ℕ, List, Option, Some, None}
 use Rattle.std.specs.List.{flat_map}
 use Rattle.job_values.specs.declared.words.TriggerKind.{TriggerKind}
 use Rattle.job_values.specs.declared.words.TriggerKind.TheVariants as kind
-use Rattle.job_values.specs.declared.cluster.ClusterEvent.TheVariants.{ScanStep, Turn}
+use Rattle.job_events.specs.declared.cluster.ClusterEvent.TheVariants.{ScanStep, Turn}
 use Rattle.cluster_history.specs.declared.scan.Scan.{Scan}
 use Rattle.cluster_history.specs.History.{History}
 use Rattle.cluster_history.specs.Groups.{groups_of}

@@ -4,3 +4,9 @@ pub mod Owners
 pub mod Dues
 pub mod Told
 pub mod FiredLogs
+pub mod Opened
+pub mod Ends
+pub mod Codes
+pub mod Queues
+pub mod OpenLogs
+pub mod ScanPlaces

@@ -1,9 +1,9 @@
 -- Who may scan while a scan is open.
 use Rattle.std.specs.Prelude.{◌≡◌, ℕ, ◌-◌, ◌==◌, false, Option, Some, None, if◌then◌else◌}
-use Rattle.job_values.specs.declared.cluster.ClusterEvent.{ClusterEvent}
-use Rattle.job_values.specs.declared.cluster.ClusterEvent.TheVariants.{NodeStop, ScanBegin, ScanStep, Reopen}
-use Rattle.job_values.specs.declared.cluster.ClusterReply.{ClusterReply}
-use Rattle.job_values.specs.declared.cluster.ClusterReply.TheVariants.{Begun}
+use Rattle.job_events.specs.declared.cluster.ClusterEvent.{ClusterEvent}
+use Rattle.job_events.specs.declared.cluster.ClusterEvent.TheVariants.{NodeStop, ScanBegin, ScanStep, Reopen}
+use Rattle.job_events.specs.declared.cluster.ClusterReply.{ClusterReply}
+use Rattle.job_events.specs.declared.cluster.ClusterReply.TheVariants.{Begun}
 use Rattle.cluster_history.specs.History.{History, Begin, After, accepted, is_refusal}
 use Rattle.cluster_history.specs.Runs.{IsLegal}
 

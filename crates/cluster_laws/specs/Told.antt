@@ -1,16 +1,15 @@
 -- What the replies tell of the tickets' fates.
 use Rattle.std.specs.Prelude.{◌≡◌, ℕ, ◌+◌, ◌<◌, ◌≤◌, ◌==◌, List, [], ◌∷◌, map, count_by, Bool, false, ◌&&◌, if◌then◌else◌}
-use Rattle.job_values.specs.declared.job.FiredTicket.{FiredTicket}
-use Rattle.job_values.specs.declared.cluster.ClusterEvent.{ClusterEvent}
-use Rattle.job_values.specs.declared.cluster.ClusterEvent.TheVariants.{NodeStart, NodeStop, Turn, Reopen}
-use Rattle.job_values.specs.declared.cluster.ClusterReply.{ClusterReply}
-use Rattle.job_values.specs.declared.cluster.ClusterReply.TheVariants.{Fired, Stopped, Reopened}
-use Rattle.cluster_history.specs.declared.limits.TheConstants.{ADMINS}
-use Rattle.cluster_history.specs.History.{History, Begin, After, accepted}
+use Rattle.job_events.specs.declared.opened.FiredTicket.{FiredTicket}
+use Rattle.job_events.specs.declared.cluster.ClusterEvent.{ClusterEvent}
+use Rattle.job_events.specs.declared.cluster.ClusterEvent.TheVariants.{NodeStop, Turn, Reopen}
+use Rattle.job_events.specs.declared.cluster.ClusterReply.{ClusterReply}
+use Rattle.job_events.specs.declared.cluster.ClusterReply.TheVariants.{Fired, Stopped, Reopened}
+use Rattle.cluster_history.specs.History.{History, Begin, After, accepted, places}
 use Rattle.cluster_history.specs.Replies.{counted_to}
 use Rattle.cluster_history.specs.Runs.{IsLegal}
 use Rattle.cluster_laws.specs.Dues.{DueFiring, fired_for, is_for}
-use Rattle.cluster_laws.specs.Fates.{Fate, Taken, Lost, Put, places, puts_of}
+use Rattle.cluster_laws.specs.Fates.{Fate, Taken, Lost, Put, puts_of}
 
 -- whether a turn at this place took a ticket
 abbrev pub is_taken_at : ℕ → Fate → Bool
@@ -24,7 +23,7 @@ is_lost_at place _ = false
 
 -- whether a ticket is of this job in this edition, for this due time
 abbrev pub is_put_for : ℕ → ℕ → ℕ → Put → Bool
-is_put_for job edition due put = is_for job edition due (fired_for put.ticket)
+is_put_for job edition due put = is_for job edition due (fired_for put.waiting)
 
 -- a ticket that a reply tells
 abbrev pub told_firing : FiredTicket → DueFiring
@@ -64,12 +63,6 @@ pub record FatesTold (h : History) : Type 0 where
       count_by (is_for job edition due) (fired_at h place) ≡ count_by (λ put. is_taken_at place put.fate && is_put_for job edition due put) (puts_of h)
   pub lost : (place : ℕ) → lost_at h place ≡ counted_to (count_by (λ put. is_lost_at place put.fate) (puts_of h))
 
--- each admin that starts is one of the sixteen
-abbrev pub StartsAdmins : History → Type 0
-StartsAdmins (Begin o) = Unit {0}
-StartsAdmins (After h (NodeStart admin) r) = StartsAdmins h × (admin < ADMINS)
-StartsAdmins (After h _ r) = StartsAdmins h
-
--- so in every legal history of the sixteen admins
+-- so in every legal history
 abbrev pub EachFateTold : Type 0
-EachFateTold = (h : History) → IsLegal h → StartsAdmins h → FatesTold (accepted h)
+EachFateTold = (h : History) → IsLegal h → FatesTold (accepted h)

@@ -5,6 +5,10 @@ ghost use Rattle.cluster_laws.specs.Owners.{OneScan};
 ghost use Rattle.cluster_laws.specs.Dues.{EachDueOnce};
 ghost use Rattle.cluster_laws.specs.Told.{EachFateTold};
 ghost use Rattle.cluster_laws.specs.FiredLogs.{EachFiringOpens};
+ghost use Rattle.cluster_laws.specs.Codes.{CodesByEntries};
+ghost use Rattle.cluster_laws.specs.Queues.{QueuesAreLeft};
+ghost use Rattle.cluster_laws.specs.OpenLogs.{EachOpenQueued};
+ghost use Rattle.cluster_laws.specs.ScanPlaces.{ScansByPlace};
 
 use cron_schedule::laws::law_after_rises;
 
@@ -41,3 +45,26 @@ pub fn law_fates()
 {
     law_after_rises();
 }
+
+/// The trigger code of a log is that of failure where no pool had room for it, or where a stop of its
+/// admin or of all stands behind its opening, and else none.
+pub fn law_codes()
+    ensures { CodesByEntries }
+{}
+
+/// What waits in a pool is what the replies tell as added to it since the last stop of its admin,
+/// without its first, as many as were taken.
+pub fn law_queues()
+    ensures { QueuesAreLeft }
+{}
+
+/// The logs of an admin without a trigger code are those that wait in its pools.
+pub fn law_open_logs()
+    ensures { EachOpenQueued }
+{}
+
+/// The open scan is that of the last begin: the page of the entries before it, with fewer steps since
+/// than the page has entries, and no stop of its owner or of all.
+pub fn law_scan_places()
+    ensures { ScansByPlace }
+{}

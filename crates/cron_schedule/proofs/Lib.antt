@@ -4,6 +4,7 @@ pub mod SetLemmas
 pub mod DayLemmas
 pub mod CivilLemmas
 pub mod DueLemmas
+pub mod ZoneLemmas
 pub mod AfterLemmas
 pub mod RelationLemmas
 pub mod SplitLemmas

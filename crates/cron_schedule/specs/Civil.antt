@@ -1,17 +1,11 @@
--- Seconds of a civil clock, and moments.
-use Rattle.std.specs.Prelude.{◌≡◌, ℕ, ◌+◌, ◌*◌, ◌/◌, ◌<◌, ◌≤◌, ℤ, pos, ◌+ℤ◌, ◌≤ℤ◌, Option, Some, None}
-use Rattle.job_values.specs.declared.numbers.TheConstants.{LAST_MOMENT}
-
--- the first second from 1970 on, of a clock so far ahead of UTC, that is later than the moment t
-pub record IsStart (offset : ℤ) (t from : ℕ) : Type 0 where
-  pub later : (pos (t / 1000 + 1) +ℤ offset) ≤ℤ pos from
-  pub least : (v : ℕ) → (pos (t / 1000 + 1) +ℤ offset) ≤ℤ pos v → from ≤ v
+-- Seconds of a civil clock.
+use Rattle.std.specs.Prelude.{◌≡◌, ℕ, nat_lt, ℤ, pos, negsuc, ◌+ℤ◌, if◌then◌else◌}
 
 -- the second of UTC at a second of the clock
 abbrev pub IsUtc : ℤ → ℕ → ℕ → Type 0
 IsUtc offset second utc = pos utc +ℤ offset ≡ pos second
 
--- the moment of a second of the clock, or none where that lies above the last one
-abbrev pub IsMomentOf : ℤ → ℕ → Option ℕ → Type 0
-IsMomentOf offset second None = (utc : ℕ) → IsUtc offset second utc → LAST_MOMENT < 1000 * utc
-IsMomentOf offset second (Some t) = (utc : ℕ) × IsUtc offset second utc × (t ≡ 1000 * utc) × (t ≤ LAST_MOMENT)
+-- a second of the clock, moved to 1970 or to the end of 2099 where it lies outside
+abbrev pub clip : ℤ → ℕ
+clip (pos v) = if nat_lt v 4102444800 then v else 4102444800
+clip (negsuc v) = 0

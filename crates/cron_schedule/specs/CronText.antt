@@ -1,7 +1,7 @@
 -- What a cron text says, or its first fault.
 use Rattle.std.specs.Prelude.{ℕ, ◌+◌, ◌==◌, nat_lt, Bool, true, false, not, ◌≡◌, ◌&&◌, List, [], ◌∷◌, ◌++◌, length, fold, find, is_none, Option, Some, None, Result, Ok, Err, if◌then◌else◌}
 use Rattle.std.specs.List.{list_any, filter_map}
-use Rattle.job_values.specs.declared.job.ScheduleFault.{ScheduleFault}
+use Rattle.job_values.specs.declared.fault.ScheduleFault.{ScheduleFault}
 use Rattle.cron_schedule.specs.declared.item.Item.{Item}
 use Rattle.cron_schedule.specs.declared.item.Item.TheVariants.{Values, Free, Last, LastWorkday, Workday, LastWeekday, NthWeekday}
 use Rattle.cron_schedule.specs.declared.item.FieldItem.{FieldItem}

@@ -6,7 +6,9 @@ use Rattle.jiff_core.specs.declared.civil.datetime.DateTime.{DateTime}
 use Rattle.jiff_core.specs.Date.{epoch_day}
 use Rattle.jiff_core.specs.DateTime.{civil_nanos}
 use Rattle.cron_schedule.specs.declared.item.FieldItem.{FieldItem}
+use Rattle.zone_texts.specs.declared.zone.Zone.{Zone}
 use Rattle.cron_schedule.specs.Sets.{in_field}
+use Rattle.cron_schedule.specs.Zones.{offset_at}
 use Rattle.cron_schedule.specs.Calendar.{civil_day}
 use Rattle.cron_schedule.specs.Days.{year_in_field, day_in_field, weekday_in_field, date_in_fields}
 
@@ -63,6 +65,17 @@ abbrev pub is_clock_due : List FieldItem → ℤ → Bool
 is_clock_due items (pos v) = is_local_due items v
 is_clock_due items (negsuc v) = false
 
--- whether a cron text is due at the moment t
+-- whether a cron text is due at the moment t on a clock that is so many seconds ahead of UTC
 abbrev pub is_due : List FieldItem → ℤ → ℕ → Bool
 is_due items offset t = (t % 1000 == 0) && is_clock_due items (pos (t / 1000) +ℤ offset)
+
+-- the same on the clock of a zone, at the offset of that moment
+abbrev pub DueIn : List FieldItem → Zone → ℕ → Type 0
+DueIn items zone t = Due items (offset_at zone t) t
+
+abbrev pub is_due_in : List FieldItem → Zone → ℕ → Bool
+is_due_in items zone t = is_due items (offset_at zone t) t
+
+-- the same of a second of UTC, on a clock whose offset goes by the instant
+abbrev pub is_utc_due : List FieldItem → (ℤ → ℤ) → ℕ → Bool
+is_utc_due items offset u = is_clock_due items (pos u +ℤ offset (pos u))

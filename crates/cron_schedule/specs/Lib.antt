@@ -7,6 +7,7 @@ pub mod Tables
 pub mod CronTables
 pub mod Calendar
 pub mod Days
+pub mod Zones
 pub mod Due
 pub mod Civil
 pub mod Pieces

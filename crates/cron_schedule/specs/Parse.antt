@@ -2,7 +2,8 @@
 use Rattle.std.specs.Prelude.{◌≡◌, ℕ, List, length, nat_lt, Option, Some, None, Result, Ok, Err, if◌then◌else◌}
 use Rattle.job_values.specs.declared.words.ScheduleKind.{ScheduleKind}
 use Rattle.job_values.specs.declared.words.ScheduleKind.TheVariants as kind
-use Rattle.job_values.specs.declared.job.ScheduleFault.{ScheduleFault}
+use Rattle.job_values.specs.declared.fault.ScheduleFault.{ScheduleFault}
+use Rattle.job_values.specs.declared.limits.TheConstants.{LONGEST_SCHEDULE}
 use Rattle.cron_schedule.specs.declared.plan.Plan.{Plan}
 use Rattle.cron_schedule.specs.declared.plan.Plan.TheVariants.{Never, Every, Cron}
 use Rattle.cron_schedule.specs.declared.item.FieldItem.{FieldItem}
@@ -29,7 +30,7 @@ kind_parsed kind.Cron text = cron_said (cron_parsed text)
 
 -- what a text says as a schedule of a kind, or its first fault
 abbrev pub parsed : ScheduleKind → List ℕ → Result Plan ScheduleFault
-parsed kind text = if nat_lt 128 (length text) then Err (fault_at 0 129) else kind_parsed kind text
+parsed kind text = if nat_lt LONGEST_SCHEDULE (length text) then Err (fault_at 0 129) else kind_parsed kind text
 
 -- an answer gives the plan or the fault that is said, or tells of memory
 abbrev pub Gives : Result Plan ParseFault → Result Plan ScheduleFault → Type 0

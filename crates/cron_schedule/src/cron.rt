@@ -1,6 +1,7 @@
 //! A cron text's items with tables of their sets, and the search for its due times.
-ghost use Rattle.std.specs.Prelude.{◌≡◌, ◌+◌, ◌-◌, ◌<◌, ◌≤◌, ◌&&◌, ◌⊎◌, ◌↔◌, IsTrue, IfOk, IfSome, IfNone, pos, ◌<ℤ◌};
-ghost use Rattle.cron_schedule.specs.First.{IsFirst};
+ghost use Rattle.std.specs.Prelude.{◌≡◌, ◌+◌, ◌-◌, ◌*◌, ◌/◌, ◌<◌, ◌≤◌, ◌&&◌, ◌⊎◌, ◌↔◌, IsTrue, true, IfOk, IfSome, IfNone, pos, ◌<ℤ◌};
+ghost use Rattle.cron_schedule.specs.First.{IsFirst, NonePasses};
+ghost use Rattle.cron_schedule.specs.Sets.{in_field};
 ghost use Rattle.cron_schedule.specs.Calendar.{weekday_on};
 ghost use Rattle.cron_schedule.specs.CronTables.{is_plain, are_plain};
 ghost use Rattle.cron_schedule.specs.Days.{year_in_field, day_in_field, weekday_in_field};
@@ -26,7 +27,7 @@ pub const SECONDS: u32 = 4_102_444_800;
 const FIRST_DAYS: u32 = 4_371_587;
 
 /// The items of a cron text, each with its field, in the order of the text.
-#[derive(Debug, Drop)]
+#[derive(Drop)]
 pub struct Cron {
     items: Seq<FieldItem>,
     seconds: [u8; 61],
@@ -112,6 +113,12 @@ impl Cron {
         }
     }
 
+    fn is_month_in(&self, date: &Date) -> bool
+        ensures { result ≡ (year_in_field self.now date.now.year && in_field 5 self.now date.now.month) }
+    {
+        self.is_year_in(date) && has(&self.months, 13, date.month as u32)
+    }
+
     fn is_date_in(&self, date: Date, weekday: u32) -> bool
         requires { weekday ≡ weekday_on date.year date.month date.day }
         ensures { result ≡ (day_in_field self.now date.year date.month date.day && weekday_in_field self.now date.year date.month date.day) }
@@ -137,10 +144,7 @@ impl Cron {
     {
         steps.tick();
         let date = Date::from_days_since_min(day + FIRST_DAYS);
-        if !self.is_year_in(&date) || !has(&self.months, 13, date.month as u32) {
-            return false;
-        }
-        self.is_date_in(date, (day + 3) % 7)
+        self.is_month_in(&date) && self.is_date_in(date, (day + 3) % 7)
     }
 
     fn is_time_due(&self, second: u32) -> bool
@@ -191,25 +195,51 @@ impl Cron {
         Some(hour * 3600 + second)
     }
 
-    fn first_day<L: Ledger>(&self, from: u32, steps: &mut Steps<L>) -> Option<u32>
-        requires { from ≤ DAYS }
-        ensures first { IsFirst (is_day_due self.now) from DAYS result }
-        ensures cost { steps.new ≤ steps.old + (DAYS - from) }
+    /// The day itself where it is in the four sets, else a later day, with none in the sets before
+    /// it: one step. A month that is in no set is passed over at once.
+    fn day_or_later<L: Ledger>(&self, day: u32, steps: &mut Steps<L>) -> u32
+        requires { day < DAYS }
+        ensures due { (result ≡ day) → is_day_due self.now day ≡ true }
+        ensures least { day ≤ result }
+        ensures most { result ≤ day + 31 }
+        ensures none { NonePasses (is_day_due self.now) day result }
+        ensures cost { steps.new ≡ steps.old + 1 }
     {
-        for day in from..DAYS {
-            if self.is_due_on(day, steps) {
+        steps.tick();
+        let date = Date::from_days_since_min(day + FIRST_DAYS);
+        if !self.is_month_in(&date) {
+            let length = days_in_month(date.year, date.month);
+            return day + 1 + (length - date.day) as u32;
+        }
+        if self.is_date_in(date, (day + 3) % 7) {
+            day
+        } else {
+            day + 1
+        }
+    }
+
+    fn first_day<L: Ledger>(&self, from: u32, days: u32, steps: &mut Steps<L>) -> Option<u32>
+        requires from { from ≤ days }
+        requires days { days ≤ DAYS }
+        ensures first { IsFirst (is_day_due self.now) from days result }
+        ensures cost { steps.new ≤ steps.old + (days - from) }
+    {
+        let mut day = from;
+        while day < days {
+            let next = self.day_or_later(day, steps);
+            if next == day {
                 return Some(day);
             }
+            day = next.min(days);
         }
         None
     }
 
-    /// The first second of the civil clock from `from` on, in seconds since 1970-01-01T00:00:00,
-    /// that is in the seven sets.
-    pub fn first_second<L: Ledger>(&self, from: u32, steps: &mut Steps<L>) -> Option<u32>
-        requires { from < SECONDS }
-        ensures first { IsFirst (is_local_due self.now) from SECONDS result }
-        ensures cost { steps.new ≤ steps.old + DAYS }
+    fn first_in_days<L: Ledger>(&self, from: u32, days: u32, steps: &mut Steps<L>) -> Option<u32>
+        requires from { from < days * 86400 }
+        requires days { days ≤ DAYS }
+        ensures first { IsFirst (is_local_due self.now) from (days * 86400) result }
+        ensures cost { steps.new + from / 86400 ≤ steps.old + days }
     {
         let day = from / 86_400;
         if self.is_due_on(day, steps) {
@@ -218,8 +248,23 @@ impl Cron {
             }
         }
         let second = self.first_in_day(0)?;
-        let day = self.first_day(day + 1, steps)?;
+        let day = self.first_day(day + 1, days, steps)?;
         Some(day * 86_400 + second)
+    }
+
+    /// The first second of the civil clock from `from` on and below `high`, in seconds since
+    /// 1970-01-01T00:00:00, that is in the seven sets. It tests the days of this stretch at most.
+    pub fn first_below<L: Ledger>(&self, from: u32, high: u32, steps: &mut Steps<L>) -> Option<u32>
+        requires { high ≤ SECONDS }
+        ensures first { IsFirst (is_local_due self.now) from high result }
+        ensures cost { 86400 * steps.new ≤ 86400 * steps.old + (high - from) + 172800 }
+        ensures days { steps.new ≤ steps.old + DAYS }
+    {
+        if from >= high {
+            return None;
+        }
+        let second = self.first_in_days(from, (high + 86_399) / 86_400, steps)?;
+        if second < high { Some(second) } else { None }
     }
 }
 

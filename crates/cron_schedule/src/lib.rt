@@ -16,10 +16,8 @@ mod rate;
 mod reading;
 pub mod schedule;
 mod sets;
+mod zones;
 
 pub use fault::ParseFault;
 pub use plan::Plan;
 pub use schedule::Schedule;
-
-#[cfg(test)]
-mod tests;

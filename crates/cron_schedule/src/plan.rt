@@ -3,7 +3,7 @@
 use super::cron::Cron;
 
 /// What a schedule says: when a job is due.
-#[derive(Debug, Drop)]
+#[derive(Drop)]
 pub enum Plan {
     /// Never.
     Never,

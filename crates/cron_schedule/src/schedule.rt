@@ -2,7 +2,7 @@
 ghost use Rattle.std.specs.Prelude.{◌≡◌, ◌+◌, ◌<◌, ◌≤◌, ◌↔◌, IsTrue, IfOk};
 ghost use Rattle.cron_schedule.specs.PlanDue.{IsDueAt, IsDayDueAt};
 ghost use Rattle.cron_schedule.specs.Parse.{parsed, Gives};
-ghost use Rattle.cron_schedule.specs.After.{time_after, after_seconds};
+ghost use Rattle.cron_schedule.specs.After.{time_after, after_seconds, most_steps};
 
 use super::clock::{after_cron, is_day_in, is_due_at, no_day};
 use super::cron::Cron;
@@ -10,17 +10,16 @@ use super::cron_text::read_cron;
 use super::fault::ParseFault;
 use super::plan::Plan;
 use super::rate::read_rate;
+use job_values::limits::LONGEST_SCHEDULE;
 use job_values::steps::Steps;
-use job_values::{Moment, NoMemory, Offset, ScheduleFault, ScheduleKind, Text};
+use job_values::{Moment, NoMemory, ScheduleFault, ScheduleKind, Text};
 use std::alloc::Global;
 use std::marker::{Brand, Model};
 use std::sync::ledger::{Blank, Ledger};
-
-/// The greatest number of bytes that a schedule's text has.
-pub const LONGEST_TEXT: usize = 128;
+use zone_texts::Zone;
 
 /// When a job is due.
-#[derive(Debug, Drop)]
+#[derive(Drop)]
 pub struct Schedule {
     plan: Plan,
 }
@@ -39,7 +38,7 @@ impl Schedule {
         ensures { Gives result (parsed kind text.now) }
     {
         let bytes = text.as_bytes();
-        if bytes.len() > LONGEST_TEXT {
+        if bytes.len() > LONGEST_SCHEDULE {
             return Err(ParseFault::Bad(ScheduleFault {
                 field: 0,
                 place: 129,
@@ -62,41 +61,43 @@ impl Schedule {
         }
     }
 
-    /// The first due time after `t` on a civil clock that is `offset` ahead of UTC, or None where
-    /// none comes up to the last moment. At a fixed rate it is so many seconds after `t`.
-    pub fn after(&self, t: Moment, offset: Offset) -> Option<Moment>
-        ensures { result ≡ time_after self.now offset t }
+    /// The first due time after `t` on the clock of a zone, or None where none comes up to the
+    /// last moment. At a fixed rate it is so many seconds after `t`.
+    pub fn after(&self, t: Moment, zone: &Zone) -> Option<Moment>
+        ensures { result ≡ time_after self.now zone.now t }
     {
-        uncounted_after::<Brand>(self, t, offset, Blank::new(1))
+        uncounted_after::<Brand>(self, t, zone, Blank::new(1))
     }
 
-    /// The same, with a step for each day that is tested.
+    /// The same, with a step for each day that is tested: at most 47,482 in a zone without rules,
+    /// and 48,526 in one with rules.
     pub fn after_counted<L: Ledger>(
         &self,
         t: Moment,
-        offset: Offset,
+        zone: &Zone,
         steps: &mut Steps<L>,
     ) -> Option<Moment>
-        ensures time { result ≡ time_after self.now offset t }
-        ensures cost { steps.new ≤ steps.old + 47482 }
+        ensures time { result ≡ time_after self.now zone.now t }
+        ensures cost { steps.new ≤ steps.old + most_steps zone.now.rules }
     {
         match &self.plan {
             Plan::Never => None,
             Plan::Every(seconds) => after_rate(t, *seconds),
-            Plan::Cron(cron) => after_cron(cron, t, offset, steps),
+            Plan::Cron(cron) => after_cron(cron, t, zone, steps),
         }
     }
 
     /// Whether the moment is due: under a cron text, whether it is a whole second whose civil time
-    /// is in the seven sets. At a fixed rate no moment is due by itself.
-    pub fn matches(&self, moment: Moment, offset: Offset) -> bool
-        ensures { IsTrue result ↔ IsDueAt self.now offset moment }
+    /// in the zone is in the seven sets: a time that a change leaves out is due at no moment, and one
+    /// that it repeats at both. At a fixed rate no moment is due by itself.
+    pub fn matches(&self, moment: Moment, zone: &Zone) -> bool
+        ensures { IsTrue result ↔ IsDueAt self.now zone.now moment }
     {
-        uncounted_matches::<Brand>(self, moment, offset, Blank::new(1))
+        uncounted_matches::<Brand>(self, moment, zone, Blank::new(1))
     }
 
     /// Whether the civil day that many days after 1970-01-01 is in the four sets of days of a cron
-    /// text: one step. Nothing else reads these sets.
+    /// text: one step.
     pub fn test_day<L: Ledger>(&self, day: i32, steps: &mut Steps<L>) -> bool
         ensures due { IsTrue result ↔ IsDayDueAt self.now day }
         ensures cost { steps.new ≡ steps.old + 1 }
@@ -142,34 +143,34 @@ impl Schedule {
 fn uncounted_after<L: Ledger>(
     schedule: &Schedule,
     t: Moment,
-    offset: Offset,
+    zone: &Zone,
     blank: Blank,
 ) -> Option<Moment>
     requires name { blank.name ≡ L.name }
     requires parts { blank.parts ≡ L.parts }
     requires some { 0 < L.parts }
-    ensures { result ≡ time_after schedule.now offset t }
+    ensures { result ≡ time_after schedule.now zone.now t }
 {
     let mut steps = Steps::<L>::none(blank);
-    schedule.after_counted(t, offset, &mut steps)
+    schedule.after_counted(t, zone, &mut steps)
 }
 
 fn uncounted_matches<L: Ledger>(
     schedule: &Schedule,
     moment: Moment,
-    offset: Offset,
+    zone: &Zone,
     blank: Blank,
 ) -> bool
     requires name { blank.name ≡ L.name }
     requires parts { blank.parts ≡ L.parts }
     requires some { 0 < L.parts }
-    ensures { IsTrue result ↔ IsDueAt schedule.now offset moment }
+    ensures { IsTrue result ↔ IsDueAt schedule.now zone.now moment }
 {
     let mut steps = Steps::<L>::none(blank);
     match &schedule.plan {
         Plan::Never => false,
         Plan::Every(_) => false,
-        Plan::Cron(cron) => is_due_at(cron, moment, offset, &mut steps),
+        Plan::Cron(cron) => is_due_at(cron, moment, zone, &mut steps),
     }
 }
 

@@ -3,9 +3,9 @@ use Rattle.std.proofs.Common.{◌≡◌, ℕ, Bool, true, false, if◌then◌els
 use Rattle.std.proofs.lemmas.Bool.{false≢true}
 use Rattle.job_values.specs.declared.run.Run.{Run}
 use Rattle.executor_history.specs.declared.records.Queued.{Queued}
-use Rattle.job_values.specs.declared.executor.ExecutorEvent.{ExecutorEvent}
-use Rattle.job_values.specs.declared.executor.ExecutorEvent.TheVariants as event
-use Rattle.job_values.specs.declared.executor.ExecutorReply.{ExecutorReply}
+use Rattle.job_events.specs.declared.executor.ExecutorEvent.{ExecutorEvent}
+use Rattle.job_events.specs.declared.executor.ExecutorEvent.TheVariants as event
+use Rattle.job_events.specs.declared.executor.ExecutorReply.{ExecutorReply}
 use Rattle.executor_history.specs.declared.records.Working.{Working}
 use Rattle.executor_history.specs.History.{History, After, accepted, is_refusal, with_accepted}
 use Rattle.executor_history.specs.Runs.{run_on}

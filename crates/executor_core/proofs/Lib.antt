@@ -1,5 +1,5 @@
 pub mod Puts
 pub mod KnownRows
 pub mod Answered
-pub mod Rising
+pub mod IdKeys
 pub mod Held

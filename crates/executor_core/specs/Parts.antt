@@ -1,8 +1,8 @@
 -- What an executor is seen as, and what its changes leave.
 use Rattle.std.specs.Prelude.{◌≡◌, ◌<◌, ◌≤◌, ℕ, ◌+◌, false, not, if◌then◌else◌, List, [], ◌∷◌, ◌++◌, Option, None, Some, length, map, filter}
-use Rattle.job_values.specs.declared.executor.ExecutorEvent.{ExecutorEvent}
-use Rattle.job_values.specs.declared.executor.ExecutorEvent.TheVariants as event
-use Rattle.job_values.specs.declared.executor.ExecutorReply.{ExecutorReply}
+use Rattle.job_events.specs.declared.executor.ExecutorEvent.{ExecutorEvent}
+use Rattle.job_events.specs.declared.executor.ExecutorEvent.TheVariants as event
+use Rattle.job_events.specs.declared.executor.ExecutorReply.{ExecutorReply}
 use Rattle.job_lane.specs.Runs.{without_first}
 use Rattle.executor_history.specs.declared.records.Working.{Working}
 use Rattle.executor_history.specs.History.{History, After, accepted, is_refusal}

@@ -1,10 +1,11 @@
 //! What an event changes, with all that it adds already made.
 
 use executor_history::Queued;
-use job_values::{CallbackItem, ExecutorReply, JobId, LogId, LogLine, Moment, RunnerNo, Seq};
+use job_events::ExecutorReply;
+use job_values::{CallbackItem, JobId, LogId, LogLine, Moment, RunnerNo, Seq};
 
 /// The change of an accepted event.
-#[derive(Debug, Drop)]
+#[derive(Drop)]
 pub enum Change {
     Nothing,
     /// A run waits, whether it covers the earlier ones of its job, and the items of those that it covers.
@@ -32,7 +33,7 @@ pub enum Change {
 }
 
 /// An event that is ready to be committed: its reply, and its change.
-#[derive(Debug, Drop)]
+#[derive(Drop)]
 pub struct PreparedRun {
     pub reply: ExecutorReply,
     pub change: Change,

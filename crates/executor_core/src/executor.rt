@@ -21,10 +21,11 @@ use super::replies::{
 use super::runs::{end_runs, enqueue, expire_runs, late_len, leave_runner, working_on};
 use callback_spool::Callbacks;
 use executor_history::{Queued, Working};
+use job_events::{ExecutorEvent, ExecutorReply};
 use job_lane::{QueuedRun, RunnerRun};
 use job_values::{
-    CallbackItem, ExecutorEvent, ExecutorReply, HandlerName, JobId, LogId, LogLine, LogMoment,
-    Moment, NoMemory, Run, RunnerNo, Seq,
+    CallbackItem, HandlerName, JobId, LogId, LogLine, LogMoment, Moment, NoMemory, Run, RunnerNo,
+    Seq,
 };
 use run_queues::Queues;
 use std::alloc::Global;
@@ -303,7 +304,7 @@ impl Executor {
             Change::Kill(_, items) => self.callbacks.reserve(items.len()),
             Change::Finish(_, items) => self.callbacks.reserve(items.len()),
             Change::Expire(_, items) => self.callbacks.reserve(items.len()),
-            Change::Poll(_, _) => self.on_runners.reserve(1).map_err(|_| NoMemory),
+            Change::Poll(_, _) => Ok(self.on_runners.reserve(1)?),
             Change::Line(log, _) => self.known.reserve_line(*log),
             Change::Nothing
             | Change::Trim(_)
@@ -342,6 +343,7 @@ impl Executor {
             Change::Kill(job, items) => {
                 let items = items.into_vec();
                 self.queues.drop_job(job);
+                self.queues.forget(job);
                 end_runs(&mut self.on_runners, job);
                 add_all(&mut self.callbacks, items);
             }

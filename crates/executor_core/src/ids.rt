@@ -1,39 +1,28 @@
-//! A set of log ids, in rising order.
+//! A set of log ids, each found at once.
 ghost use Rattle.std.specs.Prelude.{◌≡◌, ◌+◌, ◌<◌, ◌≤◌, ◌==◌, not, false, [], length, filter, OnOk};
 ghost use Rattle.executor_history.specs.Past.{put_id, is_among};
-ghost use Rattle.run_queues.specs.Rising.{RisesBy};
 
+use indexmap::IndexSet;
 use job_values::{LogId, NoMemory};
-use run_queues::{place_from, put_key, take_key};
 use std::alloc::Global;
 use std::marker::Model;
 
-/// Log ids, rising, each once.
-#[derive(Debug, Drop)]
+/// Log ids, each once. One is found, put or taken away in the same time, however many there are.
+#[derive(Drop)]
 pub struct Ids {
-    ids: Vec<LogId>,
+    ids: IndexSet<u64>,
 }
 
 impl Model for Ids {
-    ghost use Rattle.std.specs.Prelude.{◌-◌, vec_len, vec_capacity};
-    ghost use Rattle.executor_core.specs.Ids.{IdsView};
+    ghost use Rattle.std.specs.Prelude.{[], nat_eq};
+    ghost use Rattle.indexmap.specs.IndexSet.{spare, IsUnique};
+    ghost use Rattle.executor_core.specs.Ids.{IdsView, in_rise};
 
     ghost Value = { IdsView };
 
-    ghost view = { λ s. record { ids = s.ids.items; room = vec_capacity s.ids - vec_len s.ids } };
+    ghost view = { λ s. record { ids = in_rise s.ids.keys []; room = spare s.ids } };
 
-    ghost use Rattle.run_queues.specs.Rising.{RisesBy};
-
-    ghost invariant = { λ s. RisesBy (λ id. id) 0 s.ids.items };
-}
-
-/// Whether an id is among these, found by halves.
-fn is_there(ids: &[LogId], id: LogId) -> bool
-    requires { RisesBy (λ x. x) 0 ids.now }
-    ensures { result ≡ is_among id ids.now }
-{
-    let place = place_from(ids, id.get());
-    place < ids.len() && ids[place] == id
+    ghost invariant = { λ s. IsUnique nat_eq s.ids };
 }
 
 impl Ids {
@@ -42,7 +31,7 @@ impl Ids {
         ensures { result.ids ≡ [] }
     {
         Ids {
-            ids: Vec::new(alloc),
+            ids: IndexSet::new(alloc),
         }
     }
 
@@ -57,7 +46,7 @@ impl Ids {
     pub fn contains(&self, id: LogId) -> bool
         ensures { result ≡ is_among id self.now.ids }
     {
-        is_there(self.ids.as_slice(), id)
+        self.ids.contains(&id.get())
     }
 
     /// Makes room for one more id.
@@ -65,7 +54,7 @@ impl Ids {
         ensures ids { self.new.ids ≡ self.old.ids }
         ensures room { OnOk result (1 ≤ self.new.room) }
     {
-        self.ids.reserve(1).map_err(|_| NoMemory)?;
+        self.ids.reserve(1)?;
         Ok(())
     }
 
@@ -75,14 +64,13 @@ impl Ids {
         requires new { is_among id self.old.ids ≡ false }
         ensures { self.new.ids ≡ put_id id self.old.ids }
     {
-        prove!(id.get() > 0);
-        put_key(&mut self.ids, id);
+        let _put = self.ids.insert(id.get());
     }
 
     /// Takes an id away, if it is there. It takes no memory.
     pub fn release(&mut self, id: LogId)
         ensures { self.new.ids ≡ filter (λ x. not (id == x)) self.old.ids }
     {
-        take_key(&mut self.ids, id.get());
+        let _was_there = self.ids.swap_remove(&id.get());
     }
 }

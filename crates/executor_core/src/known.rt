@@ -14,7 +14,7 @@ use std::alloc::Global;
 use std::marker::Model;
 
 /// The known logs, by rising ids.
-#[derive(Debug, Drop)]
+#[derive(Drop)]
 pub struct KnownLogs {
     rows: Vec<KnownRow>,
 }
@@ -76,7 +76,7 @@ fn reserve_row(row: &mut KnownRow) -> Result<(), NoMemory>
     ensures log { row.new.log ≡ row.old.log }
     ensures room { OnOk result (vec_len row.new.lines < vec_capacity row.new.lines) }
 {
-    row.lines.reserve(1).map_err(|_| NoMemory)?;
+    row.lines.reserve(1)?;
     Ok(())
 }
 
@@ -186,7 +186,7 @@ impl KnownLogs {
         ensures rows { self.new.rows ≡ self.old.rows }
         ensures room { OnOk result (1 ≤ self.new.room) }
     {
-        self.rows.reserve(1).map_err(|_| NoMemory)?;
+        self.rows.reserve(1)?;
         Ok(())
     }
 

@@ -5,7 +5,7 @@ use job_values::{LogId, LogLine, LogMoment};
 use run_queues::Keyed;
 
 /// A log whose run was accepted, since its lines were last trimmed.
-#[derive(Debug, Drop)]
+#[derive(Drop)]
 pub struct KnownRow {
     pub log: LogId,
     /// The moment of its last run.

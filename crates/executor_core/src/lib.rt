@@ -10,10 +10,6 @@ pub mod known;
 pub mod known_row;
 pub mod replies;
 pub mod runs;
-#[cfg(test)]
-mod test_lines;
-#[cfg(test)]
-mod tests;
 
 pub use change::{Change, PreparedRun};
 pub use executor::Executor;

@@ -18,18 +18,11 @@ use super::runs::{busy, ended, working_on};
 use callback_spool::Callbacks;
 use callback_spool::batch::fitting_items;
 use executor_history::{Queued, Working};
-use job_values::{
-    ExecutorRefusal, ExecutorReply, FinishCode, HandlerName, JobId, LineNo, LogId, LogLine,
-    NoMemory, PolledRun, ReadLines, Run, RunnerNo, Seq,
-};
+use job_events::{ExecutorRefusal, ExecutorReply, FinishCode, PolledRun, ReadLines};
+use job_values::limits::{FAILURE, HELD_IDS, LINES_READ, LOG_LINES};
+use job_values::{HandlerName, JobId, LineNo, LogId, LogLine, NoMemory, Run, RunnerNo, Seq};
 use run_queues::Queues;
 use std::alloc::Global;
-
-/// The most ids that are held at once.
-pub const HELD_IDS: usize = 10_000;
-
-/// The most lines of a log.
-pub const LOG_LINES: usize = 10_000;
 
 /// Whether the executor has this handler.
 fn has_handler(run: &Run, handlers: &[HandlerName]) -> bool
@@ -165,7 +158,7 @@ pub fn finish_answer(runner: RunnerNo, code: FinishCode, on_runners: &[Working])
                 return ExecutorReply::NoItem(working.run.log);
             }
             if working.run.ended {
-                return ExecutorReply::Item(working.run.log, 500);
+                return ExecutorReply::Item(working.run.log, FAILURE);
             }
             ExecutorReply::Item(working.run.log, finish_code(code))
         }
@@ -251,7 +244,7 @@ fn takes_line(known: &KnownLogs, log: LogId) -> bool
     }
 }
 
-/// At most 100 of these lines, from a number on.
+/// These lines from a number on, no more than are read at once.
 fn some_lines(alloc: Global, lines: &[LogLine], first: u64) -> Result<Seq<LogLine>, NoMemory>
     requires least { 1 ≤ first }
     requires most { first < 2 ^ 32 }
@@ -259,7 +252,7 @@ fn some_lines(alloc: Global, lines: &[LogLine], first: u64) -> Result<Seq<LogLin
 {
     let at = (first - 1) as usize;
     let mut some = Seq::new(alloc);
-    for count in 0..100 {
+    for count in 0..LINES_READ {
         let past = lines.len() <= at + count;
         if past {
             return Ok(some);

@@ -9,6 +9,7 @@ ghost use Rattle.executor_history.specs.Replies.{is_ended};
 ghost use Rattle.run_queues.specs.Order.{HasRoom};
 
 use executor_history::{Queued, Working};
+use job_values::limits::SECOND;
 use job_values::{JobId, LogId, Moment, RunnerNo};
 use run_queues::{Queues, some_runs};
 
@@ -53,7 +54,7 @@ pub fn late(working: &Working, at: Moment) -> bool
 {
     let run = &working.run;
     let timeout = run.timeout.get();
-    let least = run.start.get() + u64::from(timeout) * 1000;
+    let least = run.start.get() + u64::from(timeout) * SECOND;
     !run.given && timeout > 0 && least <= at.get()
 }
 

@@ -2,11 +2,11 @@
 use Rattle.std.proofs.Common.{◌≡◌, ℕ, List, [], ◌∷◌, codes, pos, refl}
 use Rattle.job_values.specs.declared.run.Run.{Run}
 use Rattle.job_values.specs.declared.run.CallbackItem.{CallbackItem}
-use Rattle.job_values.specs.declared.executor.FinishCode.TheVariants.{Success}
-use Rattle.job_values.specs.declared.executor.ExecutorReply.{ExecutorReply}
-use Rattle.job_values.specs.declared.executor.ExecutorEvent.TheVariants as event
-use Rattle.job_values.specs.declared.executor.ExecutorReply.TheVariants as reply
-use Rattle.job_values.specs.declared.executor.ExecutorRefusal.TheVariants as refusal
+use Rattle.job_events.specs.declared.executor.FinishCode.TheVariants.{Success}
+use Rattle.job_events.specs.declared.executor.ExecutorReply.{ExecutorReply}
+use Rattle.job_events.specs.declared.executor.ExecutorEvent.TheVariants as event
+use Rattle.job_events.specs.declared.executor.ExecutorReply.TheVariants as reply
+use Rattle.job_events.specs.declared.executor.ExecutorRefusal.TheVariants as refusal
 use Rattle.executor_history.specs.History.{History, Opening}
 use Rattle.executor_history.specs.Legal.{replies}
 

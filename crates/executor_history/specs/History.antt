@@ -1,9 +1,9 @@
 -- Histories of an executor, the newest entry outermost.
 use Rattle.std.specs.Prelude.{ℕ, Bool, true, false, List}
 use Rattle.job_values.specs.declared.run.CallbackItem.{CallbackItem}
-use Rattle.job_values.specs.declared.executor.ExecutorEvent.{ExecutorEvent}
-use Rattle.job_values.specs.declared.executor.ExecutorReply.{ExecutorReply}
-use Rattle.job_values.specs.declared.executor.ExecutorReply.TheVariants as reply
+use Rattle.job_events.specs.declared.executor.ExecutorEvent.{ExecutorEvent}
+use Rattle.job_events.specs.declared.executor.ExecutorReply.{ExecutorReply}
+use Rattle.job_events.specs.declared.executor.ExecutorReply.TheVariants as reply
 
 -- a history: the handler names and the kept items that the executor began with, and its entries, each an event with its reply
 pub data History : Type 0 where

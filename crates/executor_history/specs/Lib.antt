@@ -5,3 +5,4 @@ pub mod Runs
 pub mod Past
 pub mod Replies
 pub mod Legal
+pub mod Places

@@ -3,7 +3,7 @@ use Rattle.std.specs.Prelude.{ℕ, ◌+◌, Bool, not, ◌&&◌, ◌==◌, nat_l
 use Rattle.std.specs.List.{list_any}
 use Rattle.job_values.specs.declared.run.Run.{Run}
 use Rattle.job_values.specs.declared.run.CallbackItem.{CallbackItem}
-use Rattle.job_values.specs.declared.executor.ExecutorEvent.TheVariants as event
+use Rattle.job_events.specs.declared.executor.ExecutorEvent.TheVariants as event
 use Rattle.job_lane.specs.Runs.{without_first}
 use Rattle.callback_spool.specs.Batches.{batch_len}
 use Rattle.executor_history.specs.declared.records.Queued.{Queued}

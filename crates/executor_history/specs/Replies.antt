@@ -1,15 +1,16 @@
 -- The reply of an event: the first refusal that applies, else the answer.
-use Rattle.std.specs.Prelude.{ℕ, ◌+◌, ◌-◌, Bool, true, false, not, ◌&&◌, ◌||◌, ◌==◌, nat_lt, nat_le, codes, if◌then◌else◌, List, [], ◌∷◌, ◌++◌, Option, None, Some, take, drop, length, max, count_by, pos}
+use Rattle.std.specs.Prelude.{ℕ, ◌+◌, ◌-◌, Bool, true, false, not, ◌&&◌, ◌||◌, ◌==◌, nat_lt, nat_le, codes, if◌then◌else◌, List, [], ◌∷◌, ◌++◌, Option, None, Some, take, drop, length, max, count_by}
 use Rattle.std.specs.List.{list_any}
 use Rattle.std.specs.Str.{bytes_eq}
+use Rattle.job_values.specs.declared.limits.TheConstants.{FAILURE, HELD_IDS, LOG_LINES, LINES_READ}
 use Rattle.job_values.specs.declared.run.Run.{Run}
 use Rattle.job_values.specs.declared.run.CallbackItem.{CallbackItem}
-use Rattle.job_values.specs.declared.executor.FinishCode.{FinishCode}
-use Rattle.job_values.specs.declared.executor.ExecutorEvent.{ExecutorEvent}
-use Rattle.job_values.specs.declared.executor.ExecutorEvent.TheVariants as event
-use Rattle.job_values.specs.declared.executor.ExecutorReply.{ExecutorReply}
-use Rattle.job_values.specs.declared.executor.ExecutorReply.TheVariants as reply
-use Rattle.job_values.specs.declared.executor.ExecutorRefusal.TheVariants as refusal
+use Rattle.job_events.specs.declared.executor.FinishCode.{FinishCode}
+use Rattle.job_events.specs.declared.executor.ExecutorEvent.{ExecutorEvent}
+use Rattle.job_events.specs.declared.executor.ExecutorEvent.TheVariants as event
+use Rattle.job_events.specs.declared.executor.ExecutorReply.{ExecutorReply}
+use Rattle.job_events.specs.declared.executor.ExecutorReply.TheVariants as reply
+use Rattle.job_events.specs.declared.executor.ExecutorRefusal.TheVariants as refusal
 use Rattle.callback_spool.specs.Batches.{batch_len}
 use Rattle.executor_history.specs.declared.records.Queued.{Queued}
 use Rattle.executor_history.specs.declared.records.Working.{Working}
@@ -22,9 +23,9 @@ use Rattle.executor_history.specs.Past.{Parts, parts_of, is_among, Known, known_
 abbrev pub queued_of : ℕ → List Queued → ℕ
 queued_of job queued = count_by (is_queued_of job) queued
 
--- no more runs are taken: 10,000 ids are held, or the number of runs is at its end
+-- no more runs are taken: as many ids are held as may be, or the number of runs is at its end
 abbrev pub is_full : ℕ → List ℕ → Bool
-is_full runs ids = nat_le 10000 (length ids) || runs == 18446744073709551615
+is_full runs ids = nat_le HELD_IDS (length ids) || runs == 18446744073709551615
 
 abbrev pub idle_reply : Bool → ExecutorReply
 idle_reply true = reply.Refused refusal.Running
@@ -55,20 +56,20 @@ poll_reply (Some working) front = reply.Refused (refusal.RunnerBusy working.run.
 abbrev pub finish_reply : FinishCode → Option Working → ExecutorReply
 finish_reply code None = reply.Refused refusal.NotRunning
 finish_reply code (Some working) =
-    if working.run.given then reply.NoItem working.run.log else reply.Item working.run.log (if working.run.ended then pos 500 else code_of code)
+    if working.run.given then reply.NoItem working.run.log else reply.Item working.run.log (if working.run.ended then FAILURE else code_of code)
 
 abbrev pub has_room : Option Known → Bool
 has_room None = true
-has_room (Some k) = nat_lt (length k.lines) 10000
+has_room (Some k) = nat_lt (length k.lines) LOG_LINES
 
--- a log has at most 10,000 lines
+-- a log has a most number of lines
 abbrev pub line_reply : Option Working → List Known → ExecutorReply
 line_reply None known = reply.Refused refusal.NotRunning
 line_reply (Some working) known = if has_room (known_of working.run.log known) then reply.Done else reply.Refused refusal.LinesFull
 
--- at most 100 lines from a number on
+-- the lines from a number on, no more than are read at once
 abbrev pub lines_from : ℕ → List (List ℕ) → List (List ℕ)
-lines_from first lines = take 100 (drop (first - 1) lines)
+lines_from first lines = take LINES_READ (drop (first - 1) lines)
 
 abbrev pub lines_reply : ℕ → Bool → Option Known → ExecutorReply
 lines_reply first is_end None = reply.Refused refusal.NoLines

@@ -4,7 +4,7 @@ use job_lane::{QueuedRun, RunnerRun};
 use job_values::JobId;
 
 /// A run that waits in the lane of its job.
-#[derive(Debug, Drop)]
+#[derive(Drop)]
 pub struct Queued {
     pub job: JobId,
     pub run: QueuedRun,

@@ -1,2 +1,15 @@
 pub mod Times
+pub mod Each
+pub mod Counts
 pub mod Once
+pub mod Held
+pub mod Free
+pub mod Standing
+pub mod Stands
+pub mod Gives
+pub mod Known
+pub mod Told
+pub mod Lanes
+pub mod Items
+pub mod Places
+pub mod Kept

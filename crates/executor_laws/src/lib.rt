@@ -1,4 +1,4 @@
-//! The law of held ids: what holds of every legal history of an executor.
+//! The laws of executors: held ids, results, lanes, places.
 #![tactic(auto)]
 
 pub mod laws;

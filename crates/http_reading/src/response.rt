@@ -14,7 +14,7 @@ use outside::Link;
 use std::alloc::Global;
 
 /// A response.
-#[derive(Debug, Drop)]
+#[derive(Drop)]
 pub struct Response {
     pub status: u16,
     pub body: Seq<u8>,

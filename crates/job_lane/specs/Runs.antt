@@ -1,5 +1,6 @@
 -- What is said of one run, and of a list of them.
 use Rattle.std.specs.Prelude.{ℕ, ◌+◌, ◌*◌, Bool, true, false, not, ◌&&◌, ◌||◌, ◌==◌, nat_lt, nat_le, if◌then◌else◌, List, [], ◌∷◌}
+use Rattle.job_values.specs.declared.limits.TheConstants.{SECOND}
 use Rattle.job_lane.specs.declared.runs.QueuedRun.{QueuedRun}
 use Rattle.job_lane.specs.declared.runs.RunnerRun.{RunnerRun}
 
@@ -9,7 +10,7 @@ is_running run = not (run.ended || run.given)
 
 -- a run without result is overdue where its timeout, in seconds, has passed since its start
 abbrev pub is_overdue : ℕ → RunnerRun → Bool
-is_overdue now run = not run.given && (nat_lt 0 run.timeout && nat_le (run.start + run.timeout * 1000) now)
+is_overdue now run = not run.given && (nat_lt 0 run.timeout && nat_le (run.start + run.timeout * SECOND) now)
 
 -- a kill or a cover ends a run that runs
 abbrev pub ended_run : RunnerRun → RunnerRun

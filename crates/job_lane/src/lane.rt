@@ -5,13 +5,14 @@ ghost use Rattle.job_lane.specs.Runs.{is_running, is_overdue, ended_run, expired
 ghost use Rattle.job_lane.specs.Lanes.{runs, front_of, queue_polled, put_started};
 
 use super::runs::{QueuedRun, RunnerRun};
+use job_values::limits::SECOND;
 use job_values::{JobId, Moment, NoMemory, RunnerNo};
 use std::alloc::Global;
 use std::collections::VecDeque;
 use std::marker::Model;
 
 /// The runs of a job: those that wait, in order of acceptance, and those on runners, in the order in which they were given.
-#[derive(Debug, Drop)]
+#[derive(Drop)]
 pub struct Lane {
     job: JobId,
     queue: VecDeque<QueuedRun>,
@@ -77,7 +78,7 @@ fn overdue(run: &RunnerRun, now: Moment) -> bool
     ensures { result ≡ is_overdue now run.now }
 {
     let timeout = run.timeout.get();
-    let least = run.start.get() + u64::from(timeout) * 1000;
+    let least = run.start.get() + u64::from(timeout) * SECOND;
     !run.given && timeout > 0 && least <= now.get()
 }
 
@@ -155,10 +156,8 @@ impl Lane {
         ensures kept { self.old.room ≤ self.new.room }
     {
         let waiting = self.queue.len();
-        self.queue.reserve(1).map_err(|_| NoMemory)?;
-        self.on_runners
-            .reserve(waiting.saturating_add(1))
-            .map_err(|_| NoMemory)?;
+        self.queue.reserve(1)?;
+        self.on_runners.reserve(waiting.saturating_add(1))?;
         Ok(())
     }
 

@@ -2,6 +2,7 @@
 #![tactic(auto)]
 
 pub mod lane;
+pub mod laws;
 pub mod runs;
 #[cfg(test)]
 mod tests;

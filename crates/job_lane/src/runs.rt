@@ -3,7 +3,7 @@
 use job_values::{HandlerName, LogId, LogMoment, Moment, RunParam, RunnerNo, ShardNo, Timeout};
 
 /// A run that waits.
-#[derive(Debug, Drop)]
+#[derive(Drop)]
 pub struct QueuedRun {
     /// Its place in order of acceptance.
     pub number: u64,

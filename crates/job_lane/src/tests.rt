@@ -1,4 +1,4 @@
-//! Each call of a lane once, with its answer.
+//! The calls of a lane, with their answers.
 
 use super::{Lane, QueuedRun};
 use job_values::{BoundedText, JobId, LogId, LogMoment, Moment, RunnerNo, ShardNo, Text, Timeout};
@@ -53,20 +53,12 @@ fn polled(lane: &mut Lane, number: u8) -> Result<u64, Fail> {
 }
 
 #[test]
-fn takes_runs_in_turn(rt: HostRuntime) -> Result<(), Fail> {
+fn lives_through_its_calls(rt: HostRuntime) -> Result<(), Fail> {
     let mut lane = two_runs(rt.alloc())?;
     assert_eq!(rt; lane.queue().len(), 2);
     assert_eq!(rt; polled(&mut lane, 3)?, 7);
     assert_eq!(rt; polled(&mut lane, 4)?, 0);
     assert_eq!(rt; lane.on_runners().len(), 1);
-    assert_eq!(rt; lane.finish(runner(4)?).is_none(), true);
-    Ok(())
-}
-
-#[test]
-fn ends_runs(rt: HostRuntime) -> Result<(), Fail> {
-    let mut lane = two_runs(rt.alloc())?;
-    assert_eq!(rt; polled(&mut lane, 3)?, 7);
     assert_eq!(rt; lane.expire(at(104_999)?), 0);
     assert_eq!(rt; lane.expire(at(105_000)?), 1);
     assert_eq!(rt; lane.kill(), 1);

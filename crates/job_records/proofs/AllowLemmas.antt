@@ -1,61 +1,25 @@
 -- Which single change keeps the rules, both ways.
-use Rattle.std.proofs.Common.{◌≡◌, ℕ, zero, suc, ◌-◌, ◌<◌, ◌≤◌, ⊎_elim, inl, inr, List, [], ◌∷◌, true, false, cond, eqb, Option, Some, None, Ok, Err, IsSome, length, get_or, refl, sym, ap, ◌∙◌, subst, arith}
-use Rattle.std.specs.List.{All, list_any}
+use Rattle.std.proofs.Common.{◌≡◌, ℕ, ◌<◌, ◌≤◌, ⊎_elim, inl, inr, List, true, false, Option, Some, None, Ok, Err, IsSome, length, refl, sym, ◌∙◌, subst, arith}
+use Rattle.std.specs.List.{list_any}
 use Rattle.std.specs.Prelude.{◌↔◌}
-use Rattle.std.proofs.lemmas.Bool.{cases_lt}
-use Rattle.std.proofs.lemmas.List.{get_or_default}
-use Rattle.std.proofs.lemmas.Bool.Decides.{nat_tests}
-use Rattle.job_records.specs.declared.limits.TheConstants.{MOST_GROUPS, MOST_JOBS, MOST_REGISTRATIONS, MOST_OF_KEY}
+use Rattle.job_values.specs.declared.limits.TheConstants.{MOST_GROUPS, MOST_JOBS, MOST_REGISTRATIONS, MOST_OF_KEY}
 use Rattle.job_records.specs.declared.change.Change.TheVariants.{PutGroup, PutJob, PutLog, PutRegistry, LastIds as SetLast}
 use Rattle.job_records.specs.declared.group.Group.{Group}
 use Rattle.job_records.specs.declared.job.Job.{Job}
 use Rattle.job_records.specs.declared.last_ids.LastIds.{LastIds}
 use Rattle.job_records.specs.declared.log.Log.{Log}
 use Rattle.job_records.specs.declared.registry.RegistryRow.{RegistryRow}
-use Rattle.job_records.specs.Rows.{row_with, RisesFrom, IsRising}
+use Rattle.rising_rows.specs.Rising.{row_with, put_row, IsRising}
 use Rattle.job_records.specs.Rules.{RunsByNext, HasItsSchedule, HasGroup, HasAddress, HasPlace, IsNamed, HasKeyPlace, count_of_key, AreLast, KeepsRules}
 use Rattle.job_records.specs.Tables.{Tables}
 use Rattle.job_records.specs.Order.{key_order, is_registered}
-use Rattle.job_records.specs.Seats.{IsSeat}
-use Rattle.job_records.specs.Changes.{put_row, applied}
-use Rattle.job_records.proofs.RowLemmas.{rising-ends, rises-apart}
-use Rattle.job_records.proofs.PutLemmas.{row_with-put, length-put_absent}
-use Rattle.job_records.proofs.Keeping.{row_has, keeps_group, keeps_job, keeps_log, keeps_registration}
+use Rattle.rising_rows.specs.Seats.{IsSeat}
+use Rattle.job_records.specs.Changes.{applied}
+use Rattle.rising_rows.proofs.RowLemmas.{rising-all, row_has}
+use Rattle.rising_rows.proofs.PutLemmas.{row_with-put_same, length-put_absent}
+use Rattle.job_records.proofs.Keeping.{keeps_group, keeps_job, keeps_log, keeps_registration}
 use Rattle.job_records.proofs.RegistryLemmas.{registration_put_only, any-registered}
-use Rattle.job_records.proofs.SeatLemmas.{any-found, any-absent}
-
-same-id : (n : ℕ) → eqb n n ≡ true
-same-id n = grind (arith, nat_tests)
-
--- the row that was put is there
-pub row_with-put_same : {R : Type 0} (id_of : R → ℕ) (row : R) (rows : List R) → row_with id_of (id_of row) (put_row id_of row rows) ≡ Some row
-row_with-put_same id_of row rows =
-    row_with-put id_of (id_of row) row rows ∙ ap (λ b. cond b (Some row) (row_with id_of (id_of row) rows)) (same-id (id_of row))
-
--- where ids rise up to a last one, none is above it
-pub rising-all : {R : Type 0} (id_of : R → ℕ) (low last : ℕ) (rows : List R) → IsRising id_of low rows last → All (λ row. id_of row ≤ last) rows
-rising-all id_of low last [] h k d lt = absurd (omega arith)
-rising-all id_of low last (row ∷ rows) h zero d lt = rising-ends id_of (id_of row) last rows h.1
-rising-all id_of low last (row ∷ rows) h (suc k) d lt = rising-all id_of (id_of row) last rows h.1 k d (omega arith)
-
--- ids that rise, none above a last one, rise up to it
-pub rising-from_all : {R : Type 0} (id_of : R → ℕ) (low last : ℕ) (rows : List R) → RisesFrom id_of low rows → low ≤ last → All (λ row. id_of row ≤ last) rows → IsRising id_of low rows last
-rising-from_all id_of low last [] h le all = le
-rising-from_all id_of low last (row ∷ rows) h le all =
-    (h.0, rising-from_all id_of (id_of row) last rows h.1 (all 0 row (omega arith)) (λ k d lt. all (suc k) d (omega arith)))
-
--- an id up to which the last row goes is one up to which all go
-pub rising-last : {R : Type 0} (id_of : R → ℕ) (last : ℕ) (rows : List R) (end : R) → RisesFrom id_of 0 rows → end ≡ get_or rows (length rows - 1) end → id_of end ≤ last → IsRising id_of 0 rows last
-rising-last id_of last rows end h is within = rising-from_all id_of 0 last rows h (omega arith) (λ k d lt.
-    let here : id_of (get_or rows (length rows - 1) d) ≡ id_of end = ap id_of (get_or_default rows (length rows - 1) d end (omega arith) ∙ sym is) in
-    ⊎_elim (λ (before : k < length rows - 1).
-    let below : id_of (get_or rows k d) < id_of (get_or rows (length rows - 1) d) = rises-apart id_of 0 rows k (length rows - 1) d h before (omega arith) in
-    omega arith)
-    (λ (after : length rows - 1 ≤ k).
-    let same : k ≡ length rows - 1 = omega arith in
-    let e : id_of (get_or rows k d) ≡ id_of (get_or rows (length rows - 1) d) = ap (λ (n : ℕ). id_of (get_or rows n d)) same in
-    omega arith)
-    (cases_lt k (length rows - 1)))
+use Rattle.rising_rows.proofs.SeatLemmas.{any-found, any-absent}
 
 -- a row that was put where the ids rise up to a last one has an id up to it
 id-within : {R : Type 0} (id_of : R → ℕ) (low last : ℕ) (row : R) (rows : List R) → IsRising id_of low (put_row id_of row rows) last → id_of row ≤ last

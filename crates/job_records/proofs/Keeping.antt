@@ -1,11 +1,11 @@
 -- Which changes keep the rules.
 use Rattle.std.proofs.Common.{◌≡◌, ℕ, suc, ◌<◌, ◌≤◌, List, [], ◌∷◌, ◌++◌, Bool, true, false, cond, not, eqb, Option, Some, None, IsSome, length, get_or, map, refl, sym, ap, ◌∙◌, subst, ⊎_elim, arith}
-use Rattle.std.specs.List.{filter, find, All}
+use Rattle.std.specs.List.{filter, All}
 use Rattle.std.proofs.lemmas.List.{append-nil, append_assoc}
 use Rattle.std.proofs.lemmas.List.Elements.{All-filter}
 use Rattle.std.proofs.lemmas.List.Sums.{length-filter, count_by-le-length}
-use Rattle.job_values.specs.declared.numbers.TheConstants.{LAST_JOB_ID, LAST_LOG_ID}
-use Rattle.job_records.specs.declared.limits.TheConstants.{MOST_GROUPS, MOST_JOBS}
+use Rattle.job_values.specs.declared.limits.TheConstants.{LAST_JOB_ID, LAST_LOG_ID}
+use Rattle.job_values.specs.declared.limits.TheConstants.{MOST_GROUPS, MOST_JOBS}
 use Rattle.job_records.specs.declared.change.Change.{Change}
 use Rattle.job_records.specs.declared.change.Change.TheVariants.{PutGroup, PutJob, DropJob, PutLog, DropLog, PutRegistry, DropRegistry, LastIds as SetLast}
 use Rattle.job_records.specs.declared.group.Group.{Group}
@@ -13,14 +13,15 @@ use Rattle.job_records.specs.declared.job.Job.{Job}
 use Rattle.job_records.specs.declared.last_ids.LastIds.{LastIds}
 use Rattle.job_records.specs.declared.log.Log.{Log}
 use Rattle.job_records.specs.declared.registry.RegistryRow.{RegistryRow}
-use Rattle.job_records.specs.Rows.{row_with, IsRising}
-use Rattle.job_records.specs.Order.{id_order, is_registered}
+use Rattle.rising_rows.specs.Rising.{row_with, put_row, IsRising}
+use Rattle.rising_rows.specs.Seats.{key_order}
+use Rattle.job_records.specs.Order.{is_registered}
 pub use Rattle.job_records.specs.Rules.{HasPlace}
 use Rattle.job_records.specs.Rules.{IsNamed, HasKeyPlace, RunsByNext, HasItsSchedule, HasGroup, HasAddress, JobRules, LogRules, KeepsRules}
 use Rattle.job_records.specs.Tables.{Tables}
-use Rattle.job_records.specs.Changes.{put_row, applied, applied_all, AreAllowed}
-use Rattle.job_records.proofs.RowLemmas.{rises-from_rising, rising-more, rising-push, rising-ends}
-use Rattle.job_records.proofs.PutLemmas.{put_behind, rising-put, rising-filter, row_with-put, length-put_present, length-put_absent, All-put}
+use Rattle.job_records.specs.Changes.{applied, applied_all, AreAllowed}
+use Rattle.rising_rows.proofs.RowLemmas.{rises-from_rising, rising-more, rising-push, rising-ends, row_has}
+use Rattle.rising_rows.proofs.PutLemmas.{put_behind, rising-put, rising-filter, row_with-put, length-put_present, length-put_absent, All-put}
 use Rattle.job_records.proofs.RegistryLemmas.{registration_put, registration_filter}
 
 -- a row that is put where there is place for it leaves no more rows than the limit
@@ -93,9 +94,9 @@ keeps_job t job h least within running schedule group place =
       jobs = record {
         rising = rising-put (λ (j : Job). j.id) 0 t.last.job job t.jobs h.jobs.rising (omega arith) within;
         last_id = h.jobs.last_id;
-        running = All-put RunsByNext (id_order (λ j. j.id) job.id) job t.jobs h.jobs.running running;
-        schedules = All-put HasItsSchedule (id_order (λ j. j.id) job.id) job t.jobs h.jobs.schedules schedule;
-        groups_exist = All-put (HasGroup t.groups) (id_order (λ j. j.id) job.id) job t.jobs h.jobs.groups_exist group;
+        running = All-put RunsByNext (key_order (λ j. j.id) job.id) job t.jobs h.jobs.running running;
+        schedules = All-put HasItsSchedule (key_order (λ j. j.id) job.id) job t.jobs h.jobs.schedules schedule;
+        groups_exist = All-put (HasGroup t.groups) (key_order (λ j. j.id) job.id) job t.jobs h.jobs.groups_exist group;
         few = few-put (λ (j : Job). j.id) 0 t.last.job MOST_JOBS job t.jobs h.jobs.rising h.jobs.few place;
       };
       logs = h.logs;
@@ -111,7 +112,7 @@ keeps_log t log h least within address =
       logs = record {
         rising = rising-put (λ (l : Log). l.id) 0 t.last.log log t.logs h.logs.rising (omega arith) within;
         last_id = h.logs.last_id;
-        addresses = All-put HasAddress (id_order (λ l. l.id) log.id) log t.logs h.logs.addresses address;
+        addresses = All-put HasAddress (key_order (λ l. l.id) log.id) log t.logs h.logs.addresses address;
       };
       registry = h.registry;
     }
@@ -173,19 +174,6 @@ allowed_append t (c ∷ cs) ds h i = (h.0, allowed_append (applied t c) cs ds h.
 pub all_keep : (t : Tables) (cs : List Change) → KeepsRules t → AreAllowed t cs → KeepsRules (applied_all t cs)
 all_keep t [] kept h = kept
 all_keep t (c ∷ cs) kept h = all_keep (applied t c) cs h.0 h.1
-
-found-all : {R : Type 0} (P : R → Type 0) (test : R → Bool) (rows : List R) (row : R) → find test rows ≡ Some row → All P rows → P row
-found-all P test [] row is all = (cc)
-found-all P test (first ∷ rows) row is all =
-    by (test first) is (λ rest. found-all P test rows row rest (λ k d lt. all (suc k) d (omega arith)))
-  where
-    by : (b : Bool) → cond b (Some first) (find test rows) ≡ Some row → (find test rows ≡ Some row → P row) → P row
-    by true here rest = let e : first ≡ row = (cc) in subst P e (all 0 first (omega arith))
-    by false there rest = rest there
-
--- a row that a list has keeps what all its rows keep
-pub row_has : {R : Type 0} (P : R → Type 0) (id_of : R → ℕ) (id : ℕ) (rows : List R) (row : R) → row_with id_of id rows ≡ Some row → All P rows → P row
-row_has P id_of id rows row is all = found-all P (λ r. eqb (id_of r) id) rows row is all
 
 -- a job that is there is as it must be
 pub job_has_rules : (groups : List Group) (jobs : List Job) (last id : ℕ) (job : Job) → JobRules groups jobs last → row_with (λ j. j.id) id jobs ≡ Some job → RunsByNext job × HasItsSchedule job × HasGroup groups job

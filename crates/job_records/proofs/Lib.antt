@@ -1,9 +1,9 @@
 pub mod RowLemmas
-pub mod SeatLemmas
 pub mod OrderLemmas
-pub mod RunLemmas
+pub mod DropLemmas
 pub mod PutLemmas
 pub mod Keeping
 pub mod AllowLemmas
 pub mod RegistryLemmas
 pub mod KeyLemmas
+pub mod BatchLemmas

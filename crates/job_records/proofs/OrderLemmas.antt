@@ -1,5 +1,5 @@
--- Lemmas on the order of the rows: lists that rise are split by an id, or by a key and a value.
-use Rattle.std.proofs.Common.{◌≡◌, ℕ, ◌<◌, ◌≤◌, ◌⊎◌, inl, inr, List, ◌&&◌, not, get_or, eqb, refl, sym, ap, ◌∙◌, ⊎_elim, arith}
+-- Lemmas on the order of the registrations: those that rise are split by a key and a value.
+use Rattle.std.proofs.Common.{◌≡◌, ℕ, ◌⊎◌, inl, inr, List, ◌&&◌, not, get_or, refl, sym, ap, ◌∙◌}
 use Rattle.std.specs.declared.cmp.Ordering.{Ordering}
 use Rattle.std.specs.declared.cmp.Ordering.TheVariants.{Less, Equal, Greater}
 use Rattle.std.specs.Cmp.{IsTotalOrder}
@@ -7,33 +7,14 @@ use Rattle.std.specs.Cmp.Lexicographic.{slice_cmp, texts_ties}
 use Rattle.std.specs.List.{filter}
 use Rattle.std.specs.Ordering.{nat_cmp, ordering_then, ordering_reverse, is_eq}
 use Rattle.std.specs.Prelude.{bytes_eq}
-use Rattle.std.proofs.lemmas.Bool.{cases_lt}
-use Rattle.std.proofs.lemmas.Bool.Decides.{nat_tests}
 use Rattle.std.proofs.lemmas.Cmp.{nat_list_cmp_total, on_total, then_total}
 use Rattle.std.proofs.lemmas.List.Elements.{filter_agree}
 use Rattle.job_records.specs.declared.registry.RegistryRow.{RegistryRow}
-use Rattle.job_records.specs.Order.{id_order, key_order, RisesByKey, is_registered}
-use Rattle.job_records.specs.Rows.{RisesFrom}
-use Rattle.job_records.specs.Seats.{IsSplitBy}
-use Rattle.job_records.specs.Changes.{without}
-use Rattle.job_records.proofs.RowLemmas.{rises-apart}
-
-pub less-nat : (m n : ℕ) → m < n → nat_cmp m n ≡ Less
-less-nat m n h = grind (arith, nat_tests)
-
-pub greater-nat : (m n : ℕ) → n < m → nat_cmp m n ≡ Greater
-greater-nat m n h = grind (arith, nat_tests)
-
--- rows whose ids rise are split by an id
-pub split-rising : {R : Type 0} (id_of : R → ℕ) (low id : ℕ) (rows : List R) → RisesFrom id_of low rows → IsSplitBy (id_order id_of id) rows
-split-rising id_of low id rows rises i j d before within =
-    let apart : id_of (get_or rows i d) < id_of (get_or rows j d) = rises-apart id_of low rows i j d rises before within in
-    ⊎_elim (λ (below : id_of (get_or rows i d) < id). inl (less-nat (id_of (get_or rows i d)) id below))
-    (λ (above : id ≤ id_of (get_or rows i d)). inr (greater-nat (id_of (get_or rows j d)) id (omega arith)))
-    (cases_lt (id_of (get_or rows i d)) id)
+use Rattle.job_records.specs.Order.{key_order, RisesByKey, is_registered}
+use Rattle.rising_rows.specs.Seats.{IsSplitBy}
 
 -- of two that rise, the lower is below a third or the higher is above it
-split-ordered : {K : Type 0} {R : K → K → Ordering} (o : IsTotalOrder R) (a b c : K) (r : Ordering) → R a c ≡ r → R a b ≡ Less → (R a c ≡ Less) ⊎ (R b c ≡ Greater)
+pub split-ordered : {K : Type 0} {R : K → K → Ordering} (o : IsTotalOrder R) (a b c : K) (r : Ordering) → R a c ≡ r → R a b ≡ Less → (R a c ≡ Less) ⊎ (R b c ≡ Greater)
 split-ordered o a b c Less is less = inl is
 split-ordered {R = R} o a b c Equal is less =
     let below : R c b ≡ Less = sym (o.congr a c b is) ∙ less in
@@ -58,13 +39,6 @@ row_of_key key value = record { key = key; value = value; beat = 0 }
 pub split-by_key : (key value : List ℕ) (rows : List RegistryRow) → RisesByKey rows → IsSplitBy (key_order key value) rows
 split-by_key key value rows rises i j d before within =
     split-ordered row_cmp-total (get_or rows i d) (get_or rows j d) (row_of_key key value) (row_cmp (get_or rows i d) (row_of_key key value)) refl (rises i j d before within)
-
-tied-nat : (m n : ℕ) → is_eq (nat_cmp m n) ≡ eqb m n
-tied-nat m n = grind (arith, nat_tests)
-
--- the rows but for one are those that are not equal to it in the order of ids
-pub without-order : {R : Type 0} (id_of : R → ℕ) (id : ℕ) (rows : List R) → filter (λ row. not (is_eq (id_order id_of id row))) rows ≡ without id_of id rows
-without-order id_of id rows = filter_agree (λ row. not (is_eq (id_order id_of id row))) (λ row. not (eqb (id_of row) id)) (λ row. ap not (tied-nat (id_of row) id)) rows
 
 tied-then : (a b : Ordering) → is_eq (ordering_then a b) ≡ (is_eq a && is_eq b)
 tied-then Less b = refl

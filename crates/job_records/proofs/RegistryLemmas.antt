@@ -9,14 +9,13 @@ use Rattle.std.proofs.lemmas.List.Elements.{All-cons, All-tail, All-filter}
 use Rattle.std.proofs.lemmas.List.Filters.{sum_by-filter_both}
 use Rattle.std.proofs.lemmas.List.Sums.{sum_by-cons, length-filter, count_by-le-length}
 use Rattle.std.proofs.lemmas.Slice.Eq.{bytes_eq-Decides}
-use Rattle.job_records.specs.declared.limits.TheConstants.{MOST_REGISTRATIONS, MOST_OF_KEY}
+use Rattle.job_values.specs.declared.limits.TheConstants.{MOST_REGISTRATIONS, MOST_OF_KEY}
 use Rattle.job_records.specs.declared.registry.RegistryRow.{RegistryRow}
 use Rattle.job_records.specs.Order.{key_order, RisesByKey, is_registered}
 use Rattle.job_records.specs.Rules.{count_of_key, IsNamed, HasKeyPlace, RegistryRules}
-use Rattle.job_records.specs.Changes.{put_by}
-use Rattle.job_records.specs.Seats.{IsSplitBy}
+use Rattle.rising_rows.specs.Seats.{put_by, IsSplitBy}
 use Rattle.job_records.proofs.OrderLemmas.{row_cmp, row_cmp-total, registered-order, split-by_key}
-use Rattle.job_records.proofs.PutLemmas.{All-put}
+use Rattle.rising_rows.proofs.PutLemmas.{All-put}
 
 pairs-cons : {R : Type 0} (P : R → R → Type 0) (row : R) (rows : List R) → All (P row) rows → AllPairs P rows → AllPairs P (row ∷ rows)
 pairs-cons P row rows head tail i zero d before within = absurd (omega arith)

@@ -1,26 +1,12 @@
 -- What a change makes of the rows.
-use Rattle.std.specs.Prelude.{ℕ, ◌==◌, List, [], ◌∷◌, filter, not}
-use Rattle.std.specs.declared.cmp.Ordering.{Ordering}
-use Rattle.std.specs.Ordering.{match_ordering}
+use Rattle.std.specs.Prelude.{List, [], ◌∷◌, filter, not}
+pub use Rattle.rising_rows.specs.Rising.{put_row, without}
+pub use Rattle.rising_rows.specs.Seats.{put_by}
 use Rattle.job_records.specs.declared.change.Change.{Change}
 use Rattle.job_records.specs.declared.change.Change.TheVariants as change
-use Rattle.job_records.specs.Order.{id_order, key_order, is_registered}
+use Rattle.job_records.specs.Order.{key_order, is_registered}
 use Rattle.job_records.specs.Rules.{KeepsRules}
 use Rattle.job_records.specs.Tables.{Tables}
-
--- the rows with one put among them: behind those that are less, and in place of the one that is equal
-abbrev pub put_by : {R : Type 0} → (R → Ordering) → R → List R → List R
-put_by order row [] = row ∷ []
-put_by order row (first ∷ rows) =
-    match_ordering (order first) (first ∷ put_by order row rows) (row ∷ rows) (row ∷ first ∷ rows)
-
--- the rows with this one: in place of the one that has its id, or in order of the ids
-abbrev pub put_row : {R : Type 0} → (R → ℕ) → R → List R → List R
-put_row id_of row rows = put_by (id_order id_of (id_of row)) row rows
-
--- the rows but for the one with this id
-abbrev pub without : {R : Type 0} → (R → ℕ) → ℕ → List R → List R
-without id_of id rows = filter (λ row. not (id_of row == id)) rows
 
 -- the tables after a change
 abbrev pub applied : Tables → Change → Tables

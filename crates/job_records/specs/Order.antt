@@ -1,14 +1,10 @@
--- The order of the rows.
+-- The order of the registrations.
 use Rattle.std.specs.Prelude.{◌≡◌, ℕ, List, AllPairs, bytes_eq, Bool, ◌&&◌}
 use Rattle.std.specs.declared.cmp.Ordering.{Ordering}
 use Rattle.std.specs.declared.cmp.Ordering.TheVariants.{Less}
 use Rattle.std.specs.Ordering.{nat_cmp, ordering_then}
 use Rattle.std.specs.Cmp.Lexicographic.{slice_cmp}
 use Rattle.job_records.specs.declared.registry.RegistryRow.{RegistryRow}
-
--- how the id of a row compares with an id
-abbrev pub id_order : {R : Type 0} → (R → ℕ) → ℕ → R → Ordering
-id_order id_of id row = nat_cmp (id_of row) id
 
 -- how a registration compares with a key and a value: by the bytes of the keys, then by those of the values
 abbrev pub key_order : List ℕ → List ℕ → RegistryRow → Ordering

@@ -1,16 +1,15 @@
 -- The rules that the tables always keep.
 use Rattle.std.specs.Prelude.{◌≡◌, true, ℕ, ◌<◌, ◌≤◌, ◌⊎◌, List, length, count_by, All, bytes_eq, IsSome, is_some, Ok}
 use Rattle.std.specs.List.{list_any}
-use Rattle.job_values.specs.declared.numbers.TheConstants.{LAST_JOB_ID, LAST_LOG_ID}
+use Rattle.job_values.specs.declared.limits.TheConstants.{LAST_JOB_ID, LAST_LOG_ID, MOST_GROUPS, MOST_JOBS, MOST_REGISTRATIONS, MOST_OF_KEY, SUCCESS}
 use Rattle.cron_schedule.specs.Parse.{parsed}
-use Rattle.job_records.specs.declared.limits.TheConstants.{MOST_GROUPS, MOST_JOBS, MOST_REGISTRATIONS, MOST_OF_KEY, SUCCESS}
 use Rattle.job_records.specs.declared.group.Group.{Group}
 use Rattle.job_records.specs.declared.job.Job.{Job}
 use Rattle.job_records.specs.declared.last_ids.LastIds.{LastIds}
 use Rattle.job_records.specs.declared.log.Log.{Log}
 use Rattle.job_records.specs.declared.registry.RegistryRow.{RegistryRow}
 use Rattle.job_records.specs.Order.{RisesByKey, is_registered}
-use Rattle.job_records.specs.Rows.{row_with, IsRising}
+use Rattle.rising_rows.specs.Rising.{row_with, IsRising}
 use Rattle.job_records.specs.Tables.{Tables}
 
 -- a job runs exactly where it has a next time

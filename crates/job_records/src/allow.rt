@@ -1,9 +1,8 @@
 //! Whether the records may take a change.
 ghost use Rattle.std.specs.Prelude.{◌≡◌, ℕ, ◌≤◌, ◌↔◌, IsTrue, IfOk};
-ghost use Rattle.job_values.specs.declared.numbers.TheConstants.{LAST_JOB_ID, LAST_LOG_ID};
-ghost use Rattle.job_records.specs.declared.limits.TheConstants.{MOST_GROUPS, MOST_JOBS};
+ghost use Rattle.job_values.specs.declared.limits.TheConstants.{LAST_JOB_ID, LAST_LOG_ID, MOST_GROUPS, MOST_JOBS};
 ghost use Rattle.job_records.specs.declared.change.Change.TheVariants as change;
-ghost use Rattle.job_records.specs.Rows.{RisesFrom, IsRising};
+ghost use Rattle.rising_rows.specs.Rising.{RisesFrom, IsRising};
 ghost use Rattle.job_records.specs.Rules.{RunsByNext, HasItsSchedule, HasGroup, HasAddress, HasPlace, AreLast, KeepsRules};
 ghost use Rattle.job_records.specs.Changes.{applied};
 
@@ -12,31 +11,30 @@ use super::group::Group;
 use super::job::Job;
 use super::keys::registration_fits;
 use super::last_ids::LastIds;
-use super::limits::{MOST_GROUPS, MOST_JOBS, SUCCESS};
 use super::log::Log;
 use super::records::Records;
 use super::registry::RegistryRow;
-use super::row::{Row, has_row};
 use cron_schedule::{ParseFault, Schedule};
 use job_values::NoMemory;
-use job_values::numbers::{LAST_JOB_ID, LAST_LOG_ID};
+use job_values::limits::{LAST_JOB_ID, LAST_LOG_ID, MOST_GROUPS, MOST_JOBS, SUCCESS};
+use rising_rows::{Keyed, has_row};
 use std::alloc::Global;
 
 /// Whether a list has a row with this id, or fewer rows than a limit.
-fn has_place<R: Row>(rows: &[R], id: u64, most: usize) -> bool
-    requires { RisesFrom R.id_of 0 rows.now }
-    ensures { IsTrue result ↔ HasPlace R.id_of id rows.now most }
+fn has_place<R: Keyed>(rows: &[R], id: u64, most: usize) -> bool
+    requires { RisesFrom R.key_of 0 rows.now }
+    ensures { IsTrue result ↔ HasPlace R.key_of id rows.now most }
 {
     rows.len() < most || has_row(rows, id)
 }
 
 /// Whether no row has an id above this one.
-fn ends_by<R: Row>(rows: &[R], last: u64) -> bool
-    requires { RisesFrom R.id_of 0 rows.now }
-    ensures { IsTrue result ↔ IsRising R.id_of 0 rows.now last }
+fn ends_by<R: Keyed>(rows: &[R], last: u64) -> bool
+    requires { RisesFrom R.key_of 0 rows.now }
+    ensures { IsTrue result ↔ IsRising R.key_of 0 rows.now last }
 {
     match rows.last() {
-        Some(row) => row.id_number() <= last,
+        Some(row) => row.key() <= last,
         None => true,
     }
 }

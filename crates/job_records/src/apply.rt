@@ -2,15 +2,17 @@
 ghost use Rattle.std.specs.Prelude.{◌≡◌, ℕ, ◌+◌, ◌-◌, ◌<◌, ◌≤◌, [], ◌∷◌, length, take, drop, vec_len, OnOk};
 ghost use Rattle.job_records.specs.Rules.{KeepsRules};
 ghost use Rattle.job_records.specs.Changes.{applied, applied_all, AreAllowed};
-ghost use Rattle.job_records.specs.Runs.{AreDrops};
+ghost use Rattle.job_records.specs.DropBatches.{AreDrops, AreRegistryDrops};
 ghost use Rattle.job_records.specs.Room.{HasRoom, HasNoLessRoom, KeepsRoom};
 
 use super::change::Change;
+use super::drop_batches::first_drops;
 use super::drops::Dropped;
-use super::edits::{drop_by_id, drop_by_key, put_by_id, put_by_key};
 use super::records::Records;
-use super::runs::{drop_run, first_drops};
+use super::registry_batches::{drop_registrations, first_registry_drops};
+use super::registry_edits::{drop_registration, put_registration};
 use job_values::Seq;
+use rising_rows::{put, take, take_all};
 use std::mem::replace;
 
 impl Records {
@@ -22,13 +24,17 @@ impl Records {
         ensures room { KeepsRoom self.old.room self.new.room (change ∷ []) }
     {
         match change {
-            Change::PutGroup(group) => put_by_id(&mut self.groups, group),
-            Change::PutJob(job) => put_by_id(&mut self.jobs, job),
-            Change::DropJob(id) => drop_by_id(&mut self.jobs, id.get() as u64),
-            Change::PutLog(log) => put_by_id(&mut self.logs, log),
-            Change::DropLog(id) => drop_by_id(&mut self.logs, id.get()),
-            Change::PutRegistry(row) => put_by_key(&mut self.registry, row),
-            Change::DropRegistry { key, value } => drop_by_key(&mut self.registry, &key, &value),
+            Change::PutGroup(group) => put(&mut self.groups, group),
+            Change::PutJob(job) => put(&mut self.jobs, job),
+            Change::DropJob(id) => take(&mut self.jobs, id.get() as u64),
+            Change::PutLog(log) => put(&mut self.logs, log),
+            Change::DropLog(id) => take(&mut self.logs, id.get()),
+            Change::PutRegistry(row) => put_registration(&mut self.registry, row),
+            Change::DropRegistry { key, value } => drop_registration(
+                &mut self.registry,
+                &key,
+                &value,
+            ),
             Change::LastIds(last) => self.last = last,
         }
     }
@@ -41,14 +47,24 @@ impl Records {
         ensures room { HasNoLessRoom self.old.room self.new.room }
     {
         match kind {
-            Dropped::Job => drop_run(&mut self.jobs, drops),
-            Dropped::Log => drop_run(&mut self.logs, drops),
+            Dropped::Job => take_all(&mut self.jobs, drops),
+            Dropped::Log => take_all(&mut self.logs, drops),
         }
     }
 
-    /// Applies the change at a place, or the run of drops that begins there, and answers how many
-    /// changes that were. It takes the change out of the list.
-    fn apply_next(&mut self, changes: &mut Vec<Change>, at: usize) -> usize
+    /// Applies drops of registrations, in one pass.
+    fn apply_registry_drops(&mut self, drops: &[Change])
+        requires drops { AreRegistryDrops drops.now }
+        requires allowed { AreAllowed self.old.kept drops.now }
+        ensures kept { self.new.kept ≡ applied_all self.old.kept drops.now }
+        ensures room { HasNoLessRoom self.old.room self.new.room }
+    {
+        drop_registrations(&mut self.registry, drops);
+    }
+
+    /// Applies the change at a place, or the batch of drops by ids that begins there, and answers how
+    /// many changes that were. It takes a single change out of the list.
+    fn apply_by_ids(&mut self, changes: &mut Vec<Change>, at: usize) -> usize
         requires within { at < vec_len changes.old }
         requires allowed { AreAllowed self.old.kept (drop at changes.old.items) }
         requires room { HasRoom self.old.room (drop at changes.old.items) }
@@ -72,6 +88,26 @@ impl Records {
         let change = replace(&mut changes[at], taken);
         self.apply_one(change);
         1
+    }
+
+    /// The same, where a batch of dropped registrations may begin there too.
+    fn apply_next(&mut self, changes: &mut Vec<Change>, at: usize) -> usize
+        requires within { at < vec_len changes.old }
+        requires allowed { AreAllowed self.old.kept (drop at changes.old.items) }
+        requires room { HasRoom self.old.room (drop at changes.old.items) }
+        ensures some { 1 ≤ result }
+        ensures within { at + result ≤ vec_len changes.old }
+        ensures kept { self.new.kept ≡ applied_all self.old.kept (take result (drop at changes.old.items)) }
+        ensures room { KeepsRoom self.old.room self.new.room (take result (drop at changes.old.items)) }
+        ensures rest { drop (at + result) changes.new.items ≡ drop (at + result) changes.old.items }
+        ensures length { vec_len changes.new ≡ vec_len changes.old }
+    {
+        let count = first_registry_drops(&changes[at..]);
+        if count > 1 {
+            self.apply_registry_drops(&changes[at..at + count]);
+            return count;
+        }
+        self.apply_by_ids(changes, at)
     }
 
     /// Applies changes, for which `reserve` made room. Each must be allowed after those before it.

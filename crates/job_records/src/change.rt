@@ -9,7 +9,7 @@ use job_values::{JobId, LogId, RegistryText};
 
 /// One change of the rows. A row that is put takes the place of the one with its id, if there is
 /// one; a registration is known by its key and its value.
-#[derive(Debug, Drop)]
+#[derive(Drop)]
 pub enum Change {
     PutGroup(Group),
     PutJob(Job),

@@ -2,12 +2,12 @@
 
 ghost use Rattle.std.specs.Prelude.{◌≡◌, IfOk};
 
-use super::row::Row;
-use job_values::{Address, Addresses, AppName, GroupId, GroupKind, NoMemory, Seq};
+use job_values::{Addresses, AppName, GroupId, GroupKind, NoMemory, copy_addresses};
+use rising_rows::Keyed;
 use std::alloc::Global;
 
 /// The executors that run the jobs of a group.
-#[derive(Debug, Drop)]
+#[derive(Drop)]
 pub struct Group {
     pub id: GroupId,
     pub app: AppName,
@@ -15,10 +15,10 @@ pub struct Group {
     pub addresses: Addresses,
 }
 
-impl Row for Group {
-    ghost id_of = { λ group. group.id };
+impl Keyed for Group {
+    ghost key_of = { λ group. group.id };
 
-    fn id_number(&self) -> u64 {
+    fn key(&self) -> u64 {
         self.id.get() as u64
     }
 }
@@ -37,16 +37,4 @@ impl Group {
             addresses,
         })
     }
-}
-
-/// Another list of the same addresses.
-fn copy_addresses(alloc: Global, addresses: &Addresses) -> Result<Addresses, NoMemory>
-    ensures { IfOk result (λ copies. copies ≡ addresses.now) }
-{
-    let mut copies: Vec<Address> = Vec::new(alloc);
-    for address in addresses.as_slice() {
-        let copy = address.copy(alloc)?;
-        copies.push(copy).map_err(|_| NoMemory)?;
-    }
-    Ok(Addresses::of(Seq::of(copies)))
 }

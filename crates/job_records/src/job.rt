@@ -2,13 +2,13 @@
 
 ghost use Rattle.std.specs.Prelude.{◌≡◌, IfOk};
 
-use super::row::Row;
 use cron_schedule::Schedule;
 use job_values::{Edition, JobId, JobSpec, Moment, NoMemory};
+use rising_rows::Keyed;
 use std::alloc::Global;
 
 /// A job. It runs exactly where it has a next time, and its schedule is what its spec's text says.
-#[derive(Debug, Drop)]
+#[derive(Drop)]
 pub struct Job {
     pub id: JobId,
     pub spec: JobSpec,
@@ -19,10 +19,10 @@ pub struct Job {
     pub next: Option<Moment>,
 }
 
-impl Row for Job {
-    ghost id_of = { λ job. job.id };
+impl Keyed for Job {
+    ghost key_of = { λ job. job.id };
 
-    fn id_number(&self) -> u64 {
+    fn key(&self) -> u64 {
         self.id.get() as u64
     }
 }

@@ -3,9 +3,9 @@ ghost use Rattle.std.specs.Prelude.{◌≡◌, ◌↔◌, IsTrue};
 ghost use Rattle.job_records.specs.Order.{RisesByKey};
 ghost use Rattle.job_records.specs.Rules.{IsNamed, HasKeyPlace, count_of_key};
 
-use super::limits::{MOST_OF_KEY, MOST_REGISTRATIONS};
 use super::registry::RegistryRow;
-use super::seat::key_seat_of;
+use super::registry_edits::seat_of;
+use job_values::limits::{MOST_OF_KEY, MOST_REGISTRATIONS};
 
 /// How many registrations have this key: two binary searches.
 fn rows_of_key(rows: &[RegistryRow], key: &str) -> usize
@@ -21,7 +21,7 @@ fn has_key_place(rows: &[RegistryRow], row: &RegistryRow) -> bool
     requires { RisesByKey rows.now }
     ensures { IsTrue result ↔ HasKeyPlace row.now rows.now }
 {
-    match key_seat_of(rows, row.key.as_str(), row.value.as_str()) {
+    match seat_of(rows, row.key.as_str(), row.value.as_str()) {
         Ok(_) => true,
         Err(_) => {
             rows.len() < MOST_REGISTRATIONS && rows_of_key(rows, row.key.as_str()) < MOST_OF_KEY

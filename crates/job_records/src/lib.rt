@@ -5,20 +5,19 @@
 mod allow;
 mod apply;
 pub mod change;
+mod drop_batches;
 mod drops;
-mod edits;
 pub mod group;
 pub mod job;
 mod keys;
 pub mod last_ids;
-pub mod limits;
+pub mod laws;
 pub mod log;
 pub mod records;
 pub mod registry;
+mod registry_batches;
+mod registry_edits;
 mod room;
-pub mod row;
-mod runs;
-mod seat;
 
 pub use change::Change;
 pub use group::Group;
@@ -27,7 +26,3 @@ pub use last_ids::LastIds;
 pub use log::Log;
 pub use records::Records;
 pub use registry::RegistryRow;
-pub use row::{Row, place_of};
-
-#[cfg(test)]
-mod tests;

@@ -2,15 +2,15 @@
 
 ghost use Rattle.std.specs.Prelude.{◌≡◌, IfOk};
 
-use super::row::Row;
 use job_values::{
     Address, Block, GroupId, HandlerName, JobId, LogId, Moment, NoMemory, ParamText, ResultText,
     Retries, Route, ShardNo, Timeout, TriggerKind,
 };
+use rising_rows::Keyed;
 use std::alloc::Global;
 
 /// One run of a job, from its firing to its result.
-#[derive(Debug, Drop)]
+#[derive(Drop)]
 pub struct Log {
     pub id: LogId,
     pub job: JobId,
@@ -41,10 +41,10 @@ pub struct Log {
     pub marked: bool,
 }
 
-impl Row for Log {
-    ghost id_of = { λ log. log.id };
+impl Keyed for Log {
+    ghost key_of = { λ log. log.id };
 
-    fn id_number(&self) -> u64 {
+    fn key(&self) -> u64 {
         self.id.get()
     }
 }

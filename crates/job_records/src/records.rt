@@ -1,7 +1,7 @@
 //! The records: the rows that the admins share, found by their ids and changed by lists of changes.
 ghost use Rattle.std.specs.Prelude.{◌≡◌};
 ghost use Rattle.std.specs.Option.{option_copied};
-ghost use Rattle.job_records.specs.Rows.{row_with};
+ghost use Rattle.rising_rows.specs.Rising.{row_with};
 ghost use Rattle.job_records.specs.Tables.{no_rows};
 ghost use Rattle.job_records.specs.Rules.{KeepsRules};
 
@@ -10,8 +10,8 @@ use super::job::Job;
 use super::last_ids::LastIds;
 use super::log::Log;
 use super::registry::RegistryRow;
-use super::row::row_at;
 use job_values::{GroupId, JobId, LogId};
+use rising_rows::row_of;
 use std::alloc::Global;
 use std::marker::Model;
 
@@ -67,21 +67,21 @@ impl Records {
     pub fn group(&self, id: GroupId) -> Option<&Group>
         ensures { option_copied result ≡ row_with (λ group. group.id) id self.now.kept.groups }
     {
-        row_at(self.groups.as_slice(), id.get() as u64)
+        row_of(self.groups.as_slice(), id.get() as u64)
     }
 
     /// The job with this id; None exactly where there is none.
     pub fn job(&self, id: JobId) -> Option<&Job>
         ensures { option_copied result ≡ row_with (λ job. job.id) id self.now.kept.jobs }
     {
-        row_at(self.jobs.as_slice(), id.get() as u64)
+        row_of(self.jobs.as_slice(), id.get() as u64)
     }
 
     /// The log with this id; None exactly where there is none.
     pub fn log(&self, id: LogId) -> Option<&Log>
         ensures { option_copied result ≡ row_with (λ log. log.id) id self.now.kept.logs }
     {
-        row_at(self.logs.as_slice(), id.get())
+        row_of(self.logs.as_slice(), id.get())
     }
 
     /// The groups, in order of their ids.

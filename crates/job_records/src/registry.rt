@@ -6,7 +6,7 @@ use job_values::{Moment, NoMemory, RegistryText};
 use std::alloc::Global;
 
 /// An executor that said it is there, and when it said so last.
-#[derive(Debug, Drop)]
+#[derive(Drop)]
 pub struct RegistryRow {
     /// The name of the application.
     pub key: RegistryText,

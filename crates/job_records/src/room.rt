@@ -50,10 +50,10 @@ impl Records {
         ensures no_less { HasNoLessRoom self.old.room self.new.room }
     {
         let puts = count_puts(changes.as_slice());
-        self.groups.reserve(puts.groups).map_err(|_| NoMemory)?;
-        self.jobs.reserve(puts.jobs).map_err(|_| NoMemory)?;
-        self.logs.reserve(puts.logs).map_err(|_| NoMemory)?;
-        self.registry.reserve(puts.registry).map_err(|_| NoMemory)?;
+        self.groups.reserve(puts.groups)?;
+        self.jobs.reserve(puts.jobs)?;
+        self.logs.reserve(puts.logs)?;
+        self.registry.reserve(puts.registry)?;
         Ok(())
     }
 }

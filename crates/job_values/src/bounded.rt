@@ -1,6 +1,10 @@
 //! Texts and lists whose length is within bounds.
 ghost use Rattle.std.specs.Prelude.{◌≡◌, ◌≤◌, ◌↔◌, ◌&&◌, nat_le, if◌then◌else◌, [], IsTrue, IfOk, IfSome, IfNone, string_bytes, length};
 
+use super::limits::{
+    LONGEST_APP, LONGEST_LOG_LINE, LONGEST_NAME, LONGEST_PARAM, LONGEST_RESULT,
+    LONGEST_SCHEDULE_GIVEN, MOST_ADDRESSES, MOST_CHILDREN, MOST_HANDLERS,
+};
 use super::no_memory::NoMemory;
 use super::seq::Seq;
 use super::text::Text;
@@ -8,7 +12,7 @@ use std::alloc::Global;
 use std::marker::Model;
 
 /// A text of `LEAST` to `MOST` bytes, which contracts see as its bytes.
-#[derive(Debug, Drop)]
+#[derive(Drop)]
 pub struct BoundedText<const LEAST: usize, const MOST: usize> {
     text: Text,
 }
@@ -63,6 +67,15 @@ impl<const LEAST: usize, const MOST: usize> BoundedText<LEAST, MOST> {
         self.text.as_str()
     }
 
+    /// The text. It takes no memory.
+    pub fn into_text(self) -> Text
+        ensures value { result ≡ self.entry }
+        ensures least { LEAST ≤ length self.entry }
+        ensures most { length self.entry ≤ MOST }
+    {
+        self.text
+    }
+
     /// Another text with the same bytes.
     pub fn copy(&self, alloc: Global) -> Result<BoundedText<LEAST, MOST>, NoMemory>
         ensures { IfOk result (λ t. t ≡ self.now) }
@@ -74,7 +87,7 @@ impl<const LEAST: usize, const MOST: usize> BoundedText<LEAST, MOST> {
 }
 
 /// A list of at most `MOST` elements, which contracts see as its elements.
-#[derive(Debug, Drop)]
+#[derive(Drop)]
 pub struct BoundedSeq<T, const MOST: usize> {
     items: Seq<T>,
 }
@@ -151,34 +164,49 @@ impl<T: Copy, const MOST: usize> BoundedSeq<T, MOST> {
 }
 
 /// The name of an application, which its executors register under.
-pub type AppName = BoundedText<1, 64>;
+pub type AppName = BoundedText<1, LONGEST_APP>;
 
 /// The address of an executor.
-pub type Address = BoundedText<1, 255>;
+pub type Address = BoundedText<1, LONGEST_NAME>;
 
 /// The address list of a group.
-pub type Addresses = BoundedSeq<Address, 256>;
+pub type Addresses = BoundedSeq<Address, MOST_ADDRESSES>;
 
 /// The name of a handler.
-pub type HandlerName = BoundedText<0, 255>;
+pub type HandlerName = BoundedText<0, LONGEST_NAME>;
 
 /// The handler names of an executor.
-pub type HandlerNames = BoundedSeq<HandlerName, 64>;
+pub type HandlerNames = BoundedSeq<HandlerName, MOST_HANDLERS>;
 
 /// The text of a schedule as a line gives it; of more than 128 bytes no schedule is read.
-pub type ScheduleText = BoundedText<0, 1024>;
+pub type ScheduleText = BoundedText<0, LONGEST_SCHEDULE_GIVEN>;
 
 /// The parameter of a job or of a manual firing.
-pub type ParamText = BoundedText<0, 512>;
+pub type ParamText = BoundedText<0, LONGEST_PARAM>;
 
 /// The text of a result.
-pub type ResultText = BoundedText<0, 15_000>;
+pub type ResultText = BoundedText<0, LONGEST_RESULT>;
 
 /// One line of a run's log.
-pub type LogLine = BoundedText<0, 1_024>;
+pub type LogLine = BoundedText<0, LONGEST_LOG_LINE>;
 
 /// The group, the key or the value of a registration, as a call gives it.
-pub type RegistryText = BoundedText<0, 255>;
+pub type RegistryText = BoundedText<0, LONGEST_NAME>;
 
 /// The children of a job.
-pub type Children = BoundedSeq<super::numbers::JobId, 64>;
+pub type Children = BoundedSeq<super::numbers::JobId, MOST_CHILDREN>;
+
+/// The text of a zone.
+pub type ZoneText = BoundedText<0, LONGEST_NAME>;
+
+/// Another list of the same addresses.
+pub fn copy_addresses(alloc: Global, addresses: &Addresses) -> Result<Addresses, NoMemory>
+    ensures { IfOk result (λ copies. copies ≡ addresses.now) }
+{
+    let mut copies: Vec<Address> = Vec::new(alloc);
+    for address in addresses.as_slice() {
+        let copy = address.copy(alloc)?;
+        copies.push(copy)?;
+    }
+    Ok(Addresses::of(Seq::of(copies)))
+}

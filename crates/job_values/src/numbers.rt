@@ -1,44 +1,12 @@
 //! The numbers of the scheduler, each within its bounds: moments, ids, node numbers and the offset.
 ghost use Rattle.std.specs.Prelude.{◌≡◌, ℕ, ℤ, pos, negsuc, ◌≤◌, ◌≤ℤ◌, ◌&&◌, nat_le, int_le, if◌then◌else◌};
-ghost use Rattle.job_values.specs.declared.numbers.TheConstants.{LAST_MOMENT, LAST_JOB_ID, LAST_LOG_ID, LAST_ADMIN, LAST_RUNNER, LAST_OFFSET, LAST_SECONDS, LAST_RETRIES, LAST_SHARD, LAST_LOG_MOMENT, LAST_REQUEST, LAST_LINE};
+ghost use Rattle.job_values.specs.declared.limits.TheConstants.{LAST_MOMENT, LAST_JOB_ID, LAST_LOG_ID, LAST_ADMIN, LAST_RUNNER, LAST_OFFSET, LAST_SECONDS, LAST_RETRIES, LAST_SHARD, LAST_LOG_MOMENT, LAST_REQUEST, LAST_LINE};
 
+use super::limits::{
+    LAST_ADMIN, LAST_JOB_ID, LAST_LINE, LAST_LOG_ID, LAST_LOG_MOMENT, LAST_MOMENT, LAST_OFFSET,
+    LAST_REQUEST, LAST_RETRIES, LAST_RUNNER, LAST_SECONDS, LAST_SHARD,
+};
 use std::marker::Model;
-
-/// The last moment, 2099-12-31T23:59:59.999Z in milliseconds since 1970-01-01T00:00:00Z.
-pub const LAST_MOMENT: u64 = 4_102_444_799_999;
-
-/// The greatest group id, and the greatest job id.
-pub const LAST_JOB_ID: u32 = 2_147_483_647;
-
-/// The greatest log id.
-pub const LAST_LOG_ID: u64 = 9_223_372_036_854_775_807;
-
-/// The greatest number of an admin node.
-pub const LAST_ADMIN: u8 = 15;
-
-/// The greatest number of an executor, and of a runner.
-pub const LAST_RUNNER: u8 = 63;
-
-/// The greatest distance of the civil clock from UTC, in seconds.
-pub const LAST_OFFSET: i32 = 64_800;
-
-/// The greatest timeout, in seconds.
-pub const LAST_SECONDS: u32 = 2_147_483_647;
-
-/// The greatest number of retries.
-pub const LAST_RETRIES: u32 = 100;
-
-/// The greatest index of a shard, and the greatest number of shards.
-pub const LAST_SHARD: u32 = 2_147_483_647;
-
-/// The greatest moment of a log that an executor is told.
-pub const LAST_LOG_MOMENT: u64 = 9_223_372_036_854_775_807;
-
-/// The greatest number of a run request, and of a batch.
-pub const LAST_REQUEST: u64 = 9_223_372_036_854_775_807;
-
-/// The greatest line number that is asked for.
-pub const LAST_LINE: u32 = 2_147_483_647;
 
 /// How often a job was started, stopped or updated.
 pub type Edition = u64;

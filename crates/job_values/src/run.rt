@@ -2,18 +2,19 @@
 ghost use Rattle.std.specs.Prelude.{◌≡◌, IfOk};
 
 use super::bounded::{BoundedText, HandlerName, ResultText};
+use super::limits::{LONGEST_RUN_PARAM, LONGEST_RUN_WORD};
 use super::no_memory::NoMemory;
 use super::numbers::{JobId, LogId, LogMoment, ShardNo, Timeout};
 use std::alloc::Global;
 
 /// The parameter of a run, as a message may give it.
-pub type RunParam = BoundedText<0, 65_536>;
+pub type RunParam = BoundedText<0, LONGEST_RUN_PARAM>;
 
 /// The block rule or the glue type of a run, as a message may give it.
-pub type RunWord = BoundedText<0, 64>;
+pub type RunWord = BoundedText<0, LONGEST_RUN_WORD>;
 
 /// A run that an executor is asked for.
-#[derive(Debug, Drop)]
+#[derive(Drop)]
 pub struct Run {
     pub job: JobId,
     pub log: LogId,
@@ -30,7 +31,7 @@ pub struct Run {
 }
 
 /// The result of a run.
-#[derive(Debug, Drop)]
+#[derive(Drop)]
 pub struct CallbackItem {
     pub log: LogId,
     pub log_moment: LogMoment,

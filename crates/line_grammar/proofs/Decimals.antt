@@ -13,6 +13,7 @@ use Rattle.line_grammar.specs.Ends.{end_byte}
 use Rattle.line_grammar.specs.Languages.{Begins, Reads}
 use Rattle.line_grammar.specs.Automata.{Step, Goes, Ends, after, run}
 use Rattle.line_grammar.specs.Numbers.{end_of, number_text, IsNumber, is_number_form, number_step_of, number_step, number_at}
+use Rattle.line_grammar.specs.Dashes.{number_form}
 use Rattle.line_grammar.proofs.Machines.{machine_reads}
 
 -- ---- digits
@@ -27,6 +28,11 @@ decimal_push n d one digit small =
 end_of-pos : (form : NumberForm) (n : ℕ) → 1 ≤ n → end_of form n ≡ form.behind
 end_of-pos form zero one = absurd (omega arith)
 end_of-pos form (suc n) one = refl
+
+-- the spelling of a number with one end
+pub number_whole : (least greatest : ℕ) (end : End) (n : ℕ) → number_text (number_form least greatest end) n ≡ decimal n ++ end_byte end ∷ []
+number_whole least greatest end zero = refl
+number_whole least greatest end (suc n) = refl
 
 -- what the form's test says
 pub record Bounds (form : NumberForm) : Type 0 where
@@ -152,7 +158,7 @@ first_on form b low high fits =
     let low_enough : 48 ≤ b = omega arith in
     rw (no_zero, le-ltb b 48 low_enough, le-ltb 57 b high, le-ltb form.greatest (b - 48) fits) refl
 
-leads : (form : NumberForm) → Bounds form → (fuel n : ℕ) → n ≤ fuel → 1 ≤ n → n ≤ form.greatest → (x : List ℕ) → run (number_step form) First (decimal n ++ x) ≡ run (number_step form) (Value n) x
+pub leads : (form : NumberForm) → Bounds form → (fuel n : ℕ) → n ≤ fuel → 1 ≤ n → n ≤ form.greatest → (x : List ℕ) → run (number_step form) First (decimal n ++ x) ≡ run (number_step form) (Value n) x
 leads form bounds zero n le one high x = absurd (omega arith)
 leads form bounds (suc fuel) n le one high x =
     elim (cases_lt n 10) [

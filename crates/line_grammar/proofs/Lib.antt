@@ -9,6 +9,7 @@ pub mod Quoted
 pub mod Either
 pub mod Words
 pub mod Loop
+pub mod Ended
 pub mod GrammarLaws
 pub mod Spellings
 pub mod PartLaws

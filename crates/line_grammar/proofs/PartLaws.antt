@@ -6,8 +6,8 @@ use Rattle.line_grammar.specs.Numbers.{IsNumber, number_at}
 use Rattle.line_grammar.specs.Texts.{IsText, text_at}
 use Rattle.line_grammar.specs.Choices.{IsWord, words_at}
 use Rattle.line_grammar.specs.Dashes.{IsOptional, optional_at, IsCode, code_at}
-use Rattle.line_grammar.specs.Lists.{IsTextList, text_list_at, IsNumberList, number_list_at}
-use Rattle.line_grammar.specs.Grammar.{Grammar, Gives, Number, Text, Optional, Code, Choice, TextList, NumberList, Says, reading}
+use Rattle.line_grammar.specs.Lists.{IsTextList, text_list_at, IsEndedNumbers, ended_numbers_at}
+use Rattle.line_grammar.specs.Grammar.{Grammar, Gives, Number, Text, Optional, Code, Choice, TextList, EndedNumbers, Says, reading}
 use Rattle.line_grammar.specs.Parts.{and_then}
 
 -- ---- a text of the first and behind it one of the second is said
@@ -23,7 +23,7 @@ part_said (Optional form ok more) next d e first second h k = said_behind (IsOpt
 part_said (Code end more) next d e first second h k = said_behind (IsCode end) (λ n. Says (more n)) (λ n. Says (and_then (more n) next)) d e first second (λ n t s. part_said (more n) next d e t second s k) h
 part_said (Choice word words ok more) next d e first second h k = said_behind (IsWord (word ∷ words)) (λ n. Says (more n)) (λ n. Says (and_then (more n) next)) d e first second (λ n t s. part_said (more n) next d e t second s k) h
 part_said (TextList most form counts ok more) next d e first second h k = said_behind (IsTextList most form) (λ n. Says (more n)) (λ n. Says (and_then (more n) next)) d e first second (λ n t s. part_said (more n) next d e t second s k) h
-part_said (NumberList most form counts ok more) next d e first second h k = said_behind (IsNumberList most form) (λ n. Says (more n)) (λ n. Says (and_then (more n) next)) d e first second (λ n t s. part_said (more n) next d e t second s k) h
+part_said (EndedNumbers most least greatest counts ok more) next d e first second h k = said_behind (IsEndedNumbers most least greatest) (λ n. Says (more n.0 n.1)) (λ n. Says (and_then (more n.0 n.1) next)) d e first second (λ n t s. part_said (more n.0 n.1) next d e t second s k) h
 
 -- ---- and nothing else is
 
@@ -40,7 +40,7 @@ part_found (Optional form ok more) next e text h = found_behind (IsOptional form
 part_found (Code end more) next e text h = found_behind (IsCode end) (λ n. Says (more n)) (λ n. Says (and_then (more n) next)) (λ d. Says (next d)) e text (λ n t s. part_found (more n) next e t s) h
 part_found (Choice word words ok more) next e text h = found_behind (IsWord (word ∷ words)) (λ n. Says (more n)) (λ n. Says (and_then (more n) next)) (λ d. Says (next d)) e text (λ n t s. part_found (more n) next e t s) h
 part_found (TextList most form counts ok more) next e text h = found_behind (IsTextList most form) (λ n. Says (more n)) (λ n. Says (and_then (more n) next)) (λ d. Says (next d)) e text (λ n t s. part_found (more n) next e t s) h
-part_found (NumberList most form counts ok more) next e text h = found_behind (IsNumberList most form) (λ n. Says (more n)) (λ n. Says (and_then (more n) next)) (λ d. Says (next d)) e text (λ n t s. part_found (more n) next e t s) h
+part_found (EndedNumbers most least greatest counts ok more) next e text h = found_behind (IsEndedNumbers most least greatest) (λ n. Says (more n.0 n.1)) (λ n. Says (and_then (more n.0 n.1) next)) (λ d. Says (next d)) e text (λ n t s. part_found (more n.0 n.1) next e t s) h
 
 -- ---- reading them is reading the one and then the other
 
@@ -56,4 +56,4 @@ part_reading (Optional form ok more) next bytes = read_behind (optional_at form 
 part_reading (Code end more) next bytes = read_behind (code_at end bytes) (λ x. reading (more x.0) x.1) (λ x. reading (and_then (more x.0) next) x.1) (λ x. reading (next x.0) x.1) (λ x. part_reading (more x.0) next x.1)
 part_reading (Choice word words ok more) next bytes = read_behind (words_at (word ∷ words) bytes) (λ x. reading (more x.0) x.1) (λ x. reading (and_then (more x.0) next) x.1) (λ x. reading (next x.0) x.1) (λ x. part_reading (more x.0) next x.1)
 part_reading (TextList most form counts ok more) next bytes = read_behind (text_list_at most form bytes) (λ x. reading (more x.0) x.1) (λ x. reading (and_then (more x.0) next) x.1) (λ x. reading (next x.0) x.1) (λ x. part_reading (more x.0) next x.1)
-part_reading (NumberList most form counts ok more) next bytes = read_behind (number_list_at most form bytes) (λ x. reading (more x.0) x.1) (λ x. reading (and_then (more x.0) next) x.1) (λ x. reading (next x.0) x.1) (λ x. part_reading (more x.0) next x.1)
+part_reading (EndedNumbers most least greatest counts ok more) next bytes = read_behind (ended_numbers_at most least greatest bytes) (λ x. reading (more x.0.0 x.0.1) x.1) (λ x. reading (and_then (more x.0.0 x.0.1) next) x.1) (λ x. reading (next x.0) x.1) (λ x. part_reading (more x.0.0 x.0.1) next x.1)

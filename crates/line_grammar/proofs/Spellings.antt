@@ -4,6 +4,7 @@ use Rattle.std.specs.Prelude.{decimal, IfSome}
 use Rattle.std.specs.List.{flat_map, AllByRecursion}
 use Rattle.std.proofs.lemmas.List.{append-nil}
 use Rattle.line_grammar.specs.declared.ends.End.{End}
+use Rattle.line_grammar.specs.declared.ends.End.TheVariants.{Space, Line}
 use Rattle.line_grammar.specs.declared.numbers.NumberForm.{NumberForm}
 use Rattle.line_grammar.specs.declared.texts.TextForm.{TextForm}
 use Rattle.line_grammar.specs.Ends.{end_byte}
@@ -11,12 +12,12 @@ use Rattle.line_grammar.specs.Numbers.{end_of, number_text, IsNumber, is_number_
 use Rattle.line_grammar.specs.Texts.{spelled, text_text, IsText, is_text_form}
 use Rattle.line_grammar.specs.Choices.{IsWord}
 use Rattle.line_grammar.specs.Dashes.{some_text, no_text, IsOptional, number_form, plus_form, minus_form, plus, minus, IsCode}
-use Rattle.line_grammar.specs.Lists.{end_before, text_before, number_before, count_form, IsTexts, IsNumbers, IsTextList, IsNumberList, text_list_at, number_list_at}
+use Rattle.line_grammar.specs.Lists.{end_before, text_before, number_before, count_form, IsTexts, IsNumbers, IsTextList, IsNumberList, text_list_at, ended_numbers_at}
 use Rattle.line_grammar.specs.Writing.{quoted, optional_text, spaced_text, spaced_number, counted_texts, counted_numbers}
 use Rattle.line_grammar.specs.Laws.{IsOneWay, WordsHaveOneSpelling, IsNumberOf, IsTextOf, WordsAreReadAgain}
 use Rattle.line_grammar.proofs.Decimals.{number_reads}
 use Rattle.line_grammar.proofs.Quoted.{text_reads}
-use Rattle.line_grammar.proofs.GrammarLaws.{text_list_reads, number_list_reads}
+use Rattle.line_grammar.proofs.GrammarLaws.{text_list_reads, number_list_reads, ended_numbers_reads}
 
 -- ---- single words
 
@@ -67,10 +68,6 @@ code_one end z text other (inr h) (inr k) =
     h.3 ∙ ap (λ (t : List ℕ). 45 ∷ t) (h.2.2 ∙ ap (number_text (minus_form end)) (minus_is h.0 k.0 h.2.0 k.2.0 (sym h.4 ∙ k.4)) ∙ sym k.2.2) ∙ sym k.3
 
 -- ---- words as their writers write them
-
-pub number_whole : (least greatest : ℕ) (end : End) (n : ℕ) → number_text (number_form least greatest end) n ≡ decimal n ++ end_byte end ∷ []
-number_whole least greatest end zero = refl
-number_whole least greatest end (suc n) = refl
 
 pub text_whole : (form : TextForm) (t : List ℕ) → text_text form t ≡ quoted t ++ end_byte form.behind ∷ []
 text_whole form t = ap (λ (x : List ℕ). 34 ∷ x) (sym (append_assoc (spelled t) (34 ∷ []) (end_byte form.behind ∷ [])))
@@ -205,11 +202,16 @@ number_list_found most form ns text h =
     let r = numbers_found form h.0 ns h.2 h.4 in
     h.5 ∙ ap (λ (x : List ℕ). x ++ h.2) (h.3.2 ∙ ap (number_text (count_form most form.behind)) r.0) ∙ ap (λ (x : List ℕ). number_text (count_form most form.behind) (length ns) ++ x) r.1 ∙ numbers_whole most form ns
 
-pub number_list_within : (most : ℕ) (form : NumberForm) (bytes ns rest : List ℕ) → is_number_form (count_form most form.behind) ≡ true → is_number_form form ≡ true → number_list_at most form bytes ≡ Ok (ns, rest) → (length ns ≤ most) × AllByRecursion (IsNumberOf form) ns
-number_list_within most form bytes ns rest counts ok e =
-    let h = ((number_list_reads most form counts ok).found bytes ns rest e).1 in
-    let r = numbers_found form h.0 ns h.2 h.4 in
-    (omega (arith, h.3.1, r.0), r.2)
+-- the bounds of numbers are the same with each end
+pub within_ends : (least greatest : ℕ) (end other : End) (ns : List ℕ) → AllByRecursion (IsNumberOf (number_form least greatest end)) ns → AllByRecursion (IsNumberOf (number_form least greatest other)) ns
+within_ends least greatest end other [] h = tt
+within_ends least greatest end other (n ∷ ns) h = (record { least = h.0.least; greatest = h.0.greatest }, within_ends least greatest end other ns h.1)
+
+pub ended_numbers_within : (most least greatest : ℕ) (bytes : List ℕ) (said : End × List ℕ) (rest : List ℕ) → is_number_form (count_form most Space) ≡ true → is_number_form (number_form least greatest Space) ≡ true → ended_numbers_at most least greatest bytes ≡ Ok (said, rest) → (length said.1 ≤ most) × AllByRecursion (IsNumberOf (number_form least greatest Line)) said.1
+ended_numbers_within most least greatest bytes said rest counts ok e =
+    let h = ((ended_numbers_reads most least greatest counts ok).found bytes said rest e).1 in
+    let r = numbers_found (number_form least greatest said.0) h.0 said.1 h.2 h.4 in
+    (omega (arith, h.3.1, r.0), within_ends least greatest said.0 Line said.1 r.2)
 
 -- ---- the laws
 
@@ -222,6 +224,7 @@ one_spelling = record {
   word = word_one;
   texts = λ most form ts text other h k. text_list_found most form ts text h ∙ sym (text_list_found most form ts other k);
   numbers = λ most form ns text other h k. number_list_found most form ns text h ∙ sym (number_list_found most form ns other k);
+  ended = λ most least greatest said text other h k. number_list_found most (number_form least greatest said.0) said.1 text h ∙ sym (number_list_found most (number_form least greatest said.0) said.1 other k);
 }
 
 pub read_again : WordsAreReadAgain
@@ -230,4 +233,5 @@ read_again = record {
   text = λ form text rest ok h. (text_reads form ok).again text (text_text form text) rest (h.utf8, h.least, h.greatest, refl);
   texts = λ most form ts rest counts ok le h. (text_list_reads most form counts ok).again ts (counted_texts ts ++ end_byte form.behind ∷ []) rest (text_list_said most form ts le h);
   numbers = λ most form ns rest counts ok le h. (number_list_reads most form counts ok).again ns (counted_numbers ns ++ end_byte form.behind ∷ []) rest (number_list_said most form ns le h);
+  ended = λ most least greatest end ns rest counts ok le h. (ended_numbers_reads most least greatest counts ok).again (end, ns) (counted_numbers ns ++ end_byte end ∷ []) rest (number_list_said most (number_form least greatest end) ns le h);
 }

@@ -3,6 +3,7 @@ use Rattle.std.specs.Prelude.{◌≡◌, ℕ, true, ◌≤◌, List, [], ◌∷�
 use Rattle.std.specs.Str.{IsUtf8}
 use Rattle.std.specs.List.{AllByRecursion}
 use Rattle.line_grammar.specs.declared.ends.End.{End}
+use Rattle.line_grammar.specs.declared.ends.End.TheVariants.{Space}
 use Rattle.line_grammar.specs.declared.numbers.NumberForm.{NumberForm}
 use Rattle.line_grammar.specs.declared.texts.TextForm.{TextForm}
 use Rattle.line_grammar.specs.Ends.{end_byte}
@@ -10,8 +11,8 @@ use Rattle.line_grammar.specs.Languages.{Reads}
 use Rattle.line_grammar.specs.Numbers.{number_text, IsNumber, is_number_form, number_at}
 use Rattle.line_grammar.specs.Texts.{text_text, IsText, is_text_form, text_at}
 use Rattle.line_grammar.specs.Choices.{IsWord}
-use Rattle.line_grammar.specs.Dashes.{IsOptional, IsCode}
-use Rattle.line_grammar.specs.Lists.{count_form, IsTextList, text_list_at, IsNumberList, number_list_at}
+use Rattle.line_grammar.specs.Dashes.{IsOptional, IsCode, number_form}
+use Rattle.line_grammar.specs.Lists.{count_form, IsTextList, text_list_at, IsNumberList, number_list_at, IsEndedNumbers, ended_numbers_at}
 use Rattle.line_grammar.specs.Writing.{counted_texts, counted_numbers}
 use Rattle.line_grammar.specs.Grammar.{Grammar, Says, reading}
 
@@ -35,6 +36,7 @@ pub record WordsHaveOneSpelling : Type 0 where
   pub word : (words : List (List ℕ)) → IsOneWay (IsWord words)
   pub texts : (most : ℕ) (form : TextForm) → IsOneWay (IsTextList most form)
   pub numbers : (most : ℕ) (form : NumberForm) → IsOneWay (IsNumberList most form)
+  pub ended : (most least greatest : ℕ) → IsOneWay (IsEndedNumbers most least greatest)
 
 -- what a form can say
 pub record IsNumberOf (form : NumberForm) (n : ℕ) : Type 0 where
@@ -54,3 +56,5 @@ pub record WordsAreReadAgain : Type 0 where
       → text_list_at most form ((counted_texts texts ++ end_byte form.behind ∷ []) ++ rest) ≡ Ok (texts, rest)
   pub numbers : (most : ℕ) (form : NumberForm) (numbers rest : List ℕ) → is_number_form (count_form most form.behind) ≡ true → is_number_form form ≡ true → length numbers ≤ most → AllByRecursion (IsNumberOf form) numbers
       → number_list_at most form ((counted_numbers numbers ++ end_byte form.behind ∷ []) ++ rest) ≡ Ok (numbers, rest)
+  pub ended : (most least greatest : ℕ) (end : End) (numbers rest : List ℕ) → is_number_form (count_form most Space) ≡ true → is_number_form (number_form least greatest Space) ≡ true → length numbers ≤ most → AllByRecursion (IsNumberOf (number_form least greatest end)) numbers
+      → ended_numbers_at most least greatest ((counted_numbers numbers ++ end_byte end ∷ []) ++ rest) ≡ Ok ((end, numbers), rest)

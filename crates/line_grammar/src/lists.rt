@@ -5,7 +5,8 @@ ghost use Rattle.line_grammar.specs.Laws.{IsNumberOf};
 ghost use Rattle.line_grammar.specs.Reading.{Takes};
 ghost use Rattle.line_grammar.specs.Numbers.{is_number_form};
 ghost use Rattle.line_grammar.specs.Texts.{text_form, is_text_form};
-ghost use Rattle.line_grammar.specs.Lists.{end_before, count_form, texts_at, numbers_at, text_list_at, number_list_at};
+ghost use Rattle.line_grammar.specs.Dashes.{number_form};
+ghost use Rattle.line_grammar.specs.Lists.{end_before, count_form, texts_at, numbers_at, text_list_at, number_list_at, ended_numbers_at};
 
 use crate::ends::End;
 use crate::faults::ReadError;
@@ -23,6 +24,18 @@ fn counting(most: u32, end: End) -> NumberForm
         greatest: u64::from(most),
         behind_zero: end,
         behind: End::Space,
+    }
+}
+
+/// The form of a number from `least` to `greatest` with this end.
+fn ended(least: u64, greatest: u64, end: End) -> NumberForm
+    ensures { result ≡ number_form least greatest end }
+{
+    NumberForm {
+        least,
+        greatest,
+        behind_zero: end,
+        behind: end,
     }
 }
 
@@ -109,24 +122,6 @@ impl Reader<'_> {
         Ok(texts)
     }
 
-    /// A count and that many numbers. `form.behind` ends the list, and a list of no number its count.
-    #[tactic(auto, using(crate::proofs::Spellings::number_list_within))]
-    pub fn number_list(
-        &mut self,
-        alloc: Global,
-        most: u32,
-        form: NumberForm,
-    ) -> Result<Vec<u64>, ReadError>
-        requires counts { is_number_form (count_form most form.behind) ≡ true }
-        requires numbers { is_number_form form ≡ true }
-        ensures taken { Takes (λ v. v.items) result self.new.rest.now (number_list_at most form self.old.rest.now) }
-        ensures most { IfOk result (λ v. length v.items ≤ most) }
-        ensures within { IfOk result (λ v. AllByRecursion (IsNumberOf form) v.items) }
-    {
-        let numbers = self.counted_numbers(alloc, most, form)?;
-        Ok(numbers)
-    }
-
     #[tactic(auto, unfolding(crate::specs::Lists::number_list_at))]
     fn counted_numbers(
         &mut self,
@@ -141,5 +136,52 @@ impl Reader<'_> {
         let count = self.number(counting(most, form.behind))?;
         let numbers = self.numbers(alloc, count, form)?;
         Ok(numbers)
+    }
+
+    /// A count and that many numbers from `least` to `greatest`, and what stands behind them.
+    #[tactic(auto, using(crate::proofs::Spellings::ended_numbers_within))]
+    pub fn ended_numbers(
+        &mut self,
+        alloc: Global,
+        most: u32,
+        least: u64,
+        greatest: u64,
+    ) -> Result<(End, Vec<u64>), ReadError>
+        requires counts { is_number_form (count_form most End.Space) ≡ true }
+        requires numbers { is_number_form (number_form least greatest End.Space) ≡ true }
+        ensures taken { Takes (λ x. (x.0, x.1.items)) result self.new.rest.now (ended_numbers_at most least greatest self.old.rest.now) }
+        ensures most { IfOk result (λ x. length x.1.items ≤ most) }
+        ensures within { IfOk result (λ x. AllByRecursion (IsNumberOf (number_form least greatest End.Line)) x.1.items) }
+    {
+        let said = self.either_end(alloc, most, least, greatest)?;
+        Ok(said)
+    }
+
+    /// The list that LF ends, or else from the same byte the one that a space ends.
+    #[tactic(auto, unfolding(crate::specs::Lists::ended_numbers_at))]
+    fn either_end(
+        &mut self,
+        alloc: Global,
+        most: u32,
+        least: u64,
+        greatest: u64,
+    ) -> Result<(End, Vec<u64>), ReadError>
+        requires counts { is_number_form (count_form most End.Space) ≡ true }
+        requires numbers { is_number_form (number_form least greatest End.Space) ≡ true }
+        ensures { Takes (λ x. (x.0, x.1.items)) result self.new.rest.now (ended_numbers_at most least greatest self.old.rest.now) }
+    {
+        let bytes = self.rest;
+        match self.counted_numbers(alloc, most, ended(least, greatest, End::Line)) {
+            Ok(numbers) => Ok((End::Line, numbers)),
+            Err(ReadError::Memory) => Err(ReadError::Memory),
+            Err(ReadError::Bad(left)) => {
+                self.rest = bytes;
+                match self.counted_numbers(alloc, most, ended(least, greatest, End::Space)) {
+                    Ok(numbers) => Ok((End::Space, numbers)),
+                    Err(ReadError::Memory) => Err(ReadError::Memory),
+                    Err(ReadError::Bad(other)) => Err(ReadError::Bad(left.min(other))),
+                }
+            }
+        }
     }
 }

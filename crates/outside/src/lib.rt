@@ -2,6 +2,7 @@
 //! adapters to the real thing. Every object counts its faults, and a call fails only where that count rose.
 #![tactic(auto)]
 
+mod clock;
 mod dialed;
 mod dialer;
 mod failed;
@@ -9,16 +10,17 @@ mod kept_dials;
 mod link;
 mod sink;
 mod source;
+mod spool;
 mod streams;
 mod tcp;
-#[cfg(test)]
-mod tests;
 
+pub use clock::{Clock, MemoryClock};
 pub use dialed::{Dialed, Shown};
 pub use dialer::{BytesDialer, Dialer, MemoryDialer};
 pub use failed::Failed;
 pub use link::{BytesLink, Link, MemoryLink, send};
 pub use sink::{BytesSink, MemorySink, Sink, write_whole};
 pub use source::{BytesSource, MemorySource, Source};
+pub use spool::{MemorySpool, Spool, SpoolError};
 pub use streams::{StreamSink, StreamSource};
 pub use tcp::{TcpDialer, TcpLink};

@@ -1,21 +1,15 @@
 -- How words that are none of `run` are answered.
 use Rattle.std.proofs.Common.{◌≡◌, ◌⊎◌, ℕ, List, Some, None, Err, refl, sym, subst, inl, inr}
 use Rattle.std.specs.Prelude.{Option, IsNone}
-use Rattle.job_values.specs.declared.job.ScheduleFault.{ScheduleFault}
+use Rattle.job_values.specs.declared.fault.ScheduleFault.{ScheduleFault}
+use Rattle.cluster_history.specs.declared.settings.Settings.{Settings}
 use Rattle.cron_schedule.specs.Parse.{parsed}
 use Rattle.replay_program.specs.Times.{fault_text}
 use Rattle.replay_program.specs.Next.{Wrote, NextEnds, OtherEnds, answer_text, answer_status}
-use Rattle.replay_program.specs.Outcome.{code_of}
+use Rattle.line_program.specs.Outcome.{code_of}
 use Rattle.replay_program.specs.declared.next.Ask.{Ask}
-use Rattle.replay_program.specs.declared.replay.Status.{Status}
-use Rattle.replay_program.specs.declared.replay.Status.TheVariants as status
-
--- the fault of a schedule is its answer
-pub fault_told : (ask : Ask) (fault : ScheduleFault) (text : List ℕ) (taken now : Option (List ℕ)) (wrote wrotes : ℕ) (end : Status)
-    → parsed ask.kind ask.text ≡ Err fault → text ≡ fault_text fault → Wrote text status.BadWords taken now wrote wrotes end → NextEnds ask taken now wrote wrotes end
-fault_told ask fault text taken now wrote wrotes end is text_is w =
-    inl (subst (λ said. Wrote (answer_text ask said) (answer_status said) taken now wrote wrotes end) (sym is)
-    (subst (λ t. Wrote t status.BadWords taken now wrote wrotes end) text_is w))
+use Rattle.line_program.specs.declared.status.Status.{Status}
+use Rattle.line_program.specs.declared.status.Status.TheVariants as status
 
 -- words that are no question end with 2, or with 4 where the sink fails
 pub refused : (ask : Option Ask) (taken now : Option (List ℕ)) (wrote wrotes : ℕ) (end : Status)
@@ -28,3 +22,7 @@ refused None taken now wrote wrotes status.BadLine none e = absurd e
 refused None taken now wrote wrotes status.SourceFailed none e = absurd e
 refused None taken now wrote wrotes status.NoMemory none e = absurd e
 refused None taken now wrote wrotes status.TooLarge none e = absurd e
+
+-- words name one setting
+pub same_settings : (settings other : Settings) (said : Option Settings) → said ≡ Some settings → said ≡ Some other → settings ≡ other
+same_settings settings other said first second = cc

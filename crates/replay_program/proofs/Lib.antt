@@ -1,13 +1,5 @@
-pub mod CutLemmas
-pub mod ProgressLemmas
-pub mod Feeding
-pub mod ScriptLemmas
-pub mod LimitLemmas
-pub mod Stopping
-pub mod Closing
-pub mod Running
 pub mod LineEnds
-pub mod OneEnd
-mod WordLemmas
-mod TimesLemmas
-mod AnswerLemmas
+pub mod ScriptLemmas
+pub mod TimesLemmas
+pub mod WordLemmas
+pub mod AnswerLemmas

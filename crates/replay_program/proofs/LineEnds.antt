@@ -14,17 +14,17 @@ use Rattle.job_values.specs.declared.words.Block.{Block}
 use Rattle.job_values.specs.declared.words.Block.TheVariants as blocks
 use Rattle.job_values.specs.declared.words.GroupKind.{GroupKind}
 use Rattle.job_values.specs.declared.words.GroupKind.TheVariants as group_kinds
-use Rattle.job_values.specs.declared.job.JobSpec.{JobSpec}
-use Rattle.job_values.specs.declared.cluster.ClusterEvent.{ClusterEvent}
-use Rattle.job_values.specs.declared.cluster.ClusterEvent.TheVariants.{NodeStart, NodeStop, NodeAsk, AddGroup, SetGroup, AddJob, UpdateJob, StartJob, StopJob, RemoveJob, TriggerJob, ScanBegin, ScanStep, Turn, ReadLog, Reopen}
+use Rattle.job_values.specs.declared.spec.JobSpec.{JobSpec}
+use Rattle.job_events.specs.declared.cluster.ClusterEvent.{ClusterEvent}
+use Rattle.job_events.specs.declared.cluster.ClusterEvent.TheVariants.{NodeStart, NodeStop, NodeAsk, AddGroup, SetGroup, AddJob, UpdateJob, StartJob, StopJob, RemoveJob, TriggerJob, ScanBegin, ScanStep, Turn, ReadLog, Reopen}
 use Rattle.line_grammar.specs.Texts.{escape, spelled, hex_digit}
 use Rattle.line_grammar.specs.Writing.{quoted, optional_text, spaced_text, spaced_number, counted_texts, counted_numbers}
 use Rattle.script_text.specs.Lines.{IsLine}
-use Rattle.script_text.specs.Spelling.{event_words, spec_text, trigger_text, work_text}
+use Rattle.script_text.specs.Spelling.{event_words, spec_text, trigger_text, work_text, zone_text}
 use Rattle.script_text.proofs.SpellingLaws.{found}
-use Rattle.replay_program.specs.Cuts.{is_open, next_line}
-use Rattle.replay_program.proofs.CutLemmas.{open_append, next_whole}
-use Rattle.replay_program.proofs.LimitLemmas.{either_way}
+use Rattle.line_program.specs.Cuts.{is_open, IsLineEnd}
+use Rattle.line_program.proofs.CutLemmas.{open_append}
+use Rattle.line_program.proofs.LimitLemmas.{either_way}
 
 not_end : (x : ℕ) → (x ≡ 10 → ⊥) → nat_eq x 10 ≡ false
 not_end x never = either_way (nat_eq x 10) (λ e. never (eqb-true x 10 e))
@@ -114,8 +114,12 @@ five : (a b c d e : List ℕ) → is_open a ≡ true → is_open b ≡ true → 
     is_open (a ++ b ++ c ++ d ++ e) ≡ true
 five a b c d e p q r s t = open_append (a ++ b ++ c ++ d) e (open_append (a ++ b ++ c) d (open_append (a ++ b) c (open_append a b p q) r) s) t
 
-spec_open : (s : JobSpec) → is_open (spec_text s) ≡ true
-spec_open s =
+zone_open : (zone : List ℕ) → is_open (zone_text zone) ≡ true
+zone_open [] = refl
+zone_open (b ∷ zone) = open_append (codes " zone ") (quoted (b ∷ zone)) refl (quoted_open (b ∷ zone))
+
+words_of_spec_open : (s : JobSpec) → is_open (trigger_text s ++ work_text s) ≡ true
+words_of_spec_open s =
     open_append (trigger_text s) (work_text s)
     (open_append (decimal s.group ++ 32 ∷ schedule_kind_text s.kind ++ spaced_text s.schedule ++ 32 ∷ misfire_text s.misfire ++ 32 ∷ route_text s.route) (32 ∷ block_text s.block)
     (five (decimal s.group) (32 ∷ schedule_kind_text s.kind) (spaced_text s.schedule) (32 ∷ misfire_text s.misfire) (32 ∷ route_text s.route)
@@ -124,6 +128,9 @@ spec_open s =
     (five (spaced_text s.handler) (spaced_text s.param) (spaced_number s.timeout) (spaced_number s.retries) (32 ∷ counted_numbers s.children)
     (quoted_open s.handler) (quoted_open s.param) (decimal_open s.timeout) (decimal_open s.retries)
     (open_append (decimal (length s.children)) (flat_map spaced_number s.children) (decimal_open (length s.children)) (numbers_open s.children)))
+
+spec_open : (s : JobSpec) → is_open (spec_text s) ≡ true
+spec_open s = open_append (trigger_text s ++ work_text s) (zone_text s.zone) (words_of_spec_open s) (zone_open s.zone)
 
 optional_open : (text : Option (List ℕ)) → is_open (optional_text text) ≡ true
 optional_open None = refl
@@ -167,14 +174,6 @@ words_open (Turn a at) = numbers_behind (codes "turn ") a at refl
 words_open (ReadLog l) = decimal_open l
 words_open Reopen = refl
 
--- a line is the next line of the bytes that it begins
-pub line_next : (e : ClusterEvent) (line more : List ℕ) → IsLine e line → next_line (line ++ more) ≡ line
-line_next e line more says =
-    let is : line ≡ event_words e ++ 10 ∷ [] = (found e line says).0 in
-    rw is (next_whole (event_words e) more (words_open e))
-
--- a line is not empty
-pub line_some : (e : ClusterEvent) (line : List ℕ) → IsLine e line → 0 < length line
-line_some e line says =
-    let is : line ≡ event_words e ++ 10 ∷ [] = (found e line says).0 in
-    omega (arith, ap length is, length-append {A = ℕ})
+-- a line of an event has one end of a line, at its end
+pub line_end : (e : ClusterEvent) (line : List ℕ) → IsLine e line → IsLineEnd line
+line_end e line says = record { front = event_words e; is = (found e line says).0; one = words_open e }

@@ -1,24 +1,24 @@
 -- The text of next times, one time after another.
 use Rattle.std.proofs.Common.{◌≡◌, ◌≢◌, ℕ, zero, suc, ◌-◌, List, [], ◌∷◌, ◌++◌, Some, refl, sym, ◌∙◌, ap, append_assoc, arith}
-use Rattle.std.specs.Prelude.{ℤ}
 use Rattle.std.specs.Fmt.{decimal}
+use Rattle.zone_texts.specs.declared.zone.Zone.{Zone}
 use Rattle.cron_schedule.specs.declared.plan.Plan.{Plan}
 use Rattle.cron_schedule.specs.After.{time_after}
 use Rattle.replay_program.specs.Times.{told, times_text}
 
 -- some times are the first one, and the others behind it
-pub first_told : (plan : Plan) (offset : ℤ) (n at : ℕ) → n ≢ 0 → times_text plan offset n at ≡ told (times_text plan offset (n - 1)) (time_after plan offset at)
-first_told plan offset zero at h = absurd (h refl)
-first_told plan offset (suc n) at h = let e : suc n - 1 ≡ n = omega arith in rw e refl
+pub first_told : (plan : Plan) (zone : Zone) (n at : ℕ) → n ≢ 0 → times_text plan zone n at ≡ told (times_text plan zone (n - 1)) (time_after plan zone at)
+first_told plan zone zero at h = absurd (h refl)
+first_told plan zone (suc n) at h = let e : suc n - 1 ≡ n = omega arith in rw e refl
 
 -- a time that was told, and those behind it
-pub told_more : (plan : Plan) (offset : ℤ) (n at next : ℕ) (old mid new : List ℕ) → n ≢ 0 → time_after plan offset at ≡ Some next
-    → mid ≡ old ++ (decimal next ++ 10 ∷ []) → new ≡ mid ++ times_text plan offset (n - 1) next → new ≡ old ++ times_text plan offset n at
-told_more plan offset n at next old mid new h is front back =
-    back ∙ ap (λ xs. xs ++ times_text plan offset (n - 1) next) front
-    ∙ append_assoc old (decimal next ++ 10 ∷ []) (times_text plan offset (n - 1) next)
-    ∙ ap (λ xs. old ++ xs) (append_assoc (decimal next) (10 ∷ []) (times_text plan offset (n - 1) next))
-    ∙ ap (λ xs. old ++ xs) (sym (first_told plan offset n at h ∙ ap (told (times_text plan offset (n - 1))) is))
+pub told_more : (plan : Plan) (zone : Zone) (n at next : ℕ) (old mid new : List ℕ) → n ≢ 0 → time_after plan zone at ≡ Some next
+    → mid ≡ old ++ (decimal next ++ 10 ∷ []) → new ≡ mid ++ times_text plan zone (n - 1) next → new ≡ old ++ times_text plan zone n at
+told_more plan zone n at next old mid new h is front back =
+    back ∙ ap (λ xs. xs ++ times_text plan zone (n - 1) next) front
+    ∙ append_assoc old (decimal next ++ 10 ∷ []) (times_text plan zone (n - 1) next)
+    ∙ ap (λ xs. old ++ xs) (append_assoc (decimal next) (10 ∷ []) (times_text plan zone (n - 1) next))
+    ∙ ap (λ xs. old ++ xs) (sym (first_told plan zone n at h ∙ ap (told (times_text plan zone (n - 1))) is))
 
 -- four pieces, one behind another
 pub four_pieces : (a b c d old first second third new : List ℕ) → first ≡ old ++ a → second ≡ first ++ b → third ≡ second ++ c → new ≡ third ++ d

@@ -28,13 +28,14 @@ no_command bytes (a ∷ b ∷ c ∷ []) one four = refl
 no_command bytes (a ∷ b ∷ c ∷ d ∷ []) one four = absurd (four refl)
 no_command bytes (a ∷ b ∷ c ∷ d ∷ e ∷ rest) one four = refl
 
--- only six words ask for next times
-pub no_question : {A : Type 0} (bytes : A → List ℕ) (words : List A) → length words ≢ 6 → next_said (map bytes words) ≡ None
-no_question bytes [] six = refl
-no_question bytes (a ∷ []) six = refl
-no_question bytes (a ∷ b ∷ []) six = refl
-no_question bytes (a ∷ b ∷ c ∷ []) six = refl
-no_question bytes (a ∷ b ∷ c ∷ d ∷ []) six = refl
-no_question bytes (a ∷ b ∷ c ∷ d ∷ e ∷ []) six = refl
-no_question bytes (a ∷ b ∷ c ∷ d ∷ e ∷ f ∷ []) six = absurd (six refl)
-no_question bytes (a ∷ b ∷ c ∷ d ∷ e ∷ f ∷ g ∷ rest) six = refl
+-- only six and seven words ask for next times
+pub no_question : {A : Type 0} (bytes : A → List ℕ) (words : List A) → length words ≢ 6 → length words ≢ 7 → next_said (map bytes words) ≡ None
+no_question bytes [] six seven = refl
+no_question bytes (a ∷ []) six seven = refl
+no_question bytes (a ∷ b ∷ []) six seven = refl
+no_question bytes (a ∷ b ∷ c ∷ []) six seven = refl
+no_question bytes (a ∷ b ∷ c ∷ d ∷ []) six seven = refl
+no_question bytes (a ∷ b ∷ c ∷ d ∷ e ∷ []) six seven = refl
+no_question bytes (a ∷ b ∷ c ∷ d ∷ e ∷ f ∷ []) six seven = absurd (six refl)
+no_question bytes (a ∷ b ∷ c ∷ d ∷ e ∷ f ∷ g ∷ []) six seven = absurd (seven refl)
+no_question bytes (a ∷ b ∷ c ∷ d ∷ e ∷ f ∷ g ∷ h ∷ rest) six seven = refl

@@ -5,7 +5,7 @@ ghost use Rattle.replay_program.specs.Next.{kind_said, ask_from, next_said};
 
 use super::next::Ask;
 use cluster_history::Settings;
-use job_values::numbers::LAST_MOMENT;
+use job_values::limits::LAST_MOMENT;
 use job_values::{Moment, NoMemory, Offset, ScheduleKind, Text};
 use std::alloc::Global;
 
@@ -126,10 +126,11 @@ fn ask_of(
     ahead: &str,
     from: &str,
     count: &str,
+    zone: &str,
 ) -> Result<Option<Ask>, NoMemory>
-    ensures ask { IfOk result (λ ask. ask ≡ ask_from (kind_said of_kind.now) text.now (offset_said ahead.now) (number_within 0 LAST_MOMENT from.now) (number_within 1 1000 count.now)) }
+    ensures ask { IfOk result (λ ask. ask ≡ ask_from (kind_said of_kind.now) text.now (offset_said ahead.now) (number_within 0 LAST_MOMENT from.now) (number_within 1 1000 count.now) zone.now) }
     // Memory is taken for words in form alone.
-    ensures err { OnErr result (IsSome (ask_from (kind_said of_kind.now) text.now (offset_said ahead.now) (number_within 0 LAST_MOMENT from.now) (number_within 1 1000 count.now))) }
+    ensures err { OnErr result (IsSome (ask_from (kind_said of_kind.now) text.now (offset_said ahead.now) (number_within 0 LAST_MOMENT from.now) (number_within 1 1000 count.now) zone.now)) }
 {
     match (
         kind(of_kind),
@@ -143,6 +144,7 @@ fn ask_of(
             offset,
             from,
             count,
+            zone: Text::copied(alloc, zone)?,
         })),
         _ => Ok(None),
     }
@@ -164,6 +166,23 @@ pub(crate) fn next_of(alloc: Global, words: &[String]) -> Result<Option<Ask>, No
                     ahead.as_str(),
                     from.as_str(),
                     count.as_str(),
+                    "",
+                )?;
+                Ok(ask)
+            } else {
+                Ok(None)
+            }
+        }
+        [word, kind, text, ahead, from, count, zone] => {
+            if word.as_str() == "next" {
+                let ask = ask_of(
+                    alloc,
+                    kind.as_str(),
+                    text.as_str(),
+                    ahead.as_str(),
+                    from.as_str(),
+                    count.as_str(),
+                    zone.as_str(),
                 )?;
                 Ok(ask)
             } else {
@@ -176,7 +195,7 @@ pub(crate) fn next_of(alloc: Global, words: &[String]) -> Result<Option<Ask>, No
         [_, _, _] => Ok(None),
         [_, _, _, _] => Ok(None),
         [_, _, _, _, _] => Ok(None),
-        [_, _, _, _, _, _, _, ..] => Ok(None),
+        [_, _, _, _, _, _, _, _, ..] => Ok(None),
     }
 }
 

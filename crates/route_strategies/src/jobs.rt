@@ -1,6 +1,8 @@
 //! Work on the picks of all jobs, by job number. `fresh` are the picks of a job that has none.
 ghost use Rattle.std.specs.Prelude.{◌≡◌, ◌≢◌, ℕ, ◌-◌, ◌^◌, ◌<◌, ◌∷◌, ◌++◌, [], List, Some, nat_eq, unwrap_or, IsSomeAnd, MatchOption, if◌then◌else◌, OnOk};
 ghost use Rattle.indexmap.specs.IndexMap.{get, spare};
+ghost use Rattle.indexmap.specs.IndexMap.{insert_entry};
+ghost use Rattle.route_strategies.specs.State.{with_pick};
 ghost use Rattle.route_strategies.specs.Picks.{no_picks, IsPicks};
 ghost use Rattle.route_strategies.specs.Rows.{kept_rows};
 
@@ -21,7 +23,7 @@ pub(crate) fn reserve_for(
     match jobs.get_mut(&job) {
         Some(picks) => picks.reserve(),
         None => {
-            jobs.reserve(1).map_err(|_| NoMemory)?;
+            jobs.reserve(1)?;
             fresh.reserve()
         }
     }
@@ -36,6 +38,7 @@ pub(crate) fn add_for(
 )
     requires room { MatchOption (get nat_eq jobs.old job) ((0 < spare jobs.old) × (0 < fresh.old.room)) (λ picks. 0 < picks.room) }
     requires fewer { (unwrap_or (get nat_eq jobs.old job) fresh.old).kept.number < 2 ^ 64 - 1 }
+    ensures exact { fresh.old.kept ≡ no_picks → kept_rows jobs.new.entries ≡ with_pick (kept_rows jobs.old.entries) job address }
     ensures picked { IsSomeAnd (get nat_eq jobs.new job) (λ state. (picks : List (List ℕ)) → IsPicks (unwrap_or (get nat_eq jobs.old job) fresh.old).kept picks → IsPicks state.kept (picks ++ address ∷ [])) }
     ensures others { (other : ℕ) → other ≢ job → get nat_eq jobs.new other ≡ get nat_eq jobs.old other }
     ensures fresh { fresh.old.kept ≡ no_picks → fresh.new.kept ≡ no_picks }
@@ -52,7 +55,8 @@ pub(crate) fn add_for(
 
 fn put_new(jobs: &mut IndexMap<u32, JobPicks>, job: u32, picks: JobPicks)
     requires { 0 < spare jobs.old }
-    ensures { (other : ℕ) → get nat_eq jobs.new other ≡ (if nat_eq job other then Some picks else get nat_eq jobs.old other) }
+    ensures entries { jobs.new.entries ≡ insert_entry nat_eq jobs.old.entries job picks }
+    ensures others { (other : ℕ) → get nat_eq jobs.new other ≡ (if nat_eq job other then Some picks else get nat_eq jobs.old other) }
 {
     let _ = jobs.insert(job, picks);
 }

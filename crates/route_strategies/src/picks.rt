@@ -4,7 +4,9 @@ ghost use Rattle.std.specs.Str.{bytes_eq};
 ghost use Rattle.std.specs.String.{string_bytes};
 ghost use Rattle.std.specs.Option.{option_map_or};
 ghost use Rattle.indexmap.specs.IndexMap.{spare, get_by_text};
-ghost use Rattle.route_strategies.specs.Picks.{no_picks, picked_in, count_in, last_in, IsPicks};
+ghost use Rattle.std.specs.Prelude.{string_eq};
+ghost use Rattle.indexmap.specs.IndexMap.{insert_entry};
+ghost use Rattle.route_strategies.specs.Picks.{no_picks, picked_in, count_in, last_in, IsPicks, pick_added};
 
 use indexmap::IndexMap;
 use job_values::{NoMemory, Text};
@@ -50,7 +52,7 @@ impl JobPicks {
         ensures same { self.new.kept ≡ self.old.kept }
         ensures room { self.old.room ≤ self.new.room }
     {
-        self.addresses.reserve(1).map_err(|_| NoMemory)?;
+        self.addresses.reserve(1)?;
         Ok(())
     }
 
@@ -75,6 +77,7 @@ impl JobPicks {
     pub(crate) fn add(&mut self, address: Text)
         requires room { 0 < self.old.room }
         requires fewer { self.old.kept.number < 2 ^ 64 - 1 }
+        ensures exact { self.new.kept ≡ pick_added self.old.kept address }
         ensures picks { (picks : List (List ℕ)) → IsPicks self.old.kept picks → IsPicks self.new.kept (picks ++ address ∷ []) }
     {
         self.number += 1;
@@ -109,7 +112,8 @@ fn last_of(picked: Option<Picked>) -> u64
 // Counts a pick of an address, which is the pick of this number.
 fn raise(addresses: &mut IndexMap<String, Picked>, address: String, number: u64)
     requires { 0 < spare addresses.old }
-    ensures { (other : List ℕ) → get_by_text addresses.new other ≡ (if bytes_eq (string_bytes address) other then Some (record { count = min (option_map_or (λ p. p.count) (get_by_text addresses.old (string_bytes address)) 0 + 1) (2 ^ 64 - 1); last = number }) else get_by_text addresses.old other) }
+    ensures entries { addresses.new.entries ≡ insert_entry string_eq addresses.old.entries address (record { count = min (option_map_or (λ p. p.count) (get_by_text addresses.old (string_bytes address)) 0 + 1) (2 ^ 64 - 1); last = number }) }
+    ensures written { (other : List ℕ) → get_by_text addresses.new other ≡ (if bytes_eq (string_bytes address) other then Some (record { count = min (option_map_or (λ p. p.count) (get_by_text addresses.old (string_bytes address)) 0 + 1) (2 ^ 64 - 1); last = number }) else get_by_text addresses.old other) }
 {
     let count = count_of(find(addresses, address.as_str()));
     let picked = Picked {
@@ -121,7 +125,8 @@ fn raise(addresses: &mut IndexMap<String, Picked>, address: String, number: u64)
 
 fn put(addresses: &mut IndexMap<String, Picked>, address: String, picked: Picked)
     requires { 0 < spare addresses.old }
-    ensures { (other : List ℕ) → get_by_text addresses.new other ≡ (if bytes_eq (string_bytes address) other then Some picked else get_by_text addresses.old other) }
+    ensures entries { addresses.new.entries ≡ insert_entry string_eq addresses.old.entries address picked }
+    ensures written { (other : List ℕ) → get_by_text addresses.new other ≡ (if bytes_eq (string_bytes address) other then Some picked else get_by_text addresses.old other) }
 {
     let _ = addresses.insert(address, picked);
 }

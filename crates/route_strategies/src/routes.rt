@@ -1,7 +1,8 @@
 //! The picks of all jobs of an admin node, and the choice of addresses.
 ghost use Rattle.std.specs.Prelude.{◌≡◌, ◌≢◌, ℕ, ◌-◌, ◌^◌, ◌<◌, [], ◌∷◌, ◌++◌, List, IfOk, OnOk, OnErr};
 ghost use Rattle.route_strategies.specs.Choice.{IsChoice};
-ghost use Rattle.route_strategies.specs.State.{counts_of, ArePicksOf, HasRoom};
+ghost use Rattle.route_strategies.specs.Chosen.{chosen};
+ghost use Rattle.route_strategies.specs.State.{counts_of, ArePicksOf, HasRoom, with_pick};
 
 use super::ask::RouteAsk;
 use super::jobs::{add_for, reserve_for};
@@ -53,7 +54,8 @@ impl Routes {
 
     /// The address that the route gives, or the list that is to be asked. It changes nothing.
     pub fn choose(&self, ask: &RouteAsk<'_>) -> Result<Choice, NoMemory>
-        ensures { (picks : List (List ℕ)) → ArePicksOf self.now.kept ask.now.job picks → IfOk result (IsChoice ask.now.route ask.now.job ask.now.list.now ask.now.index ask.now.word picks) }
+        ensures exact { (picks : List (List ℕ)) → ArePicksOf self.now.kept ask.now.job picks → IfOk result (λ choice. choice ≡ chosen ask.now.route ask.now.job ask.now.list.now ask.now.index ask.now.word picks) }
+        ensures choice { (picks : List (List ℕ)) → ArePicksOf self.now.kept ask.now.job picks → IfOk result (IsChoice ask.now.route ask.now.job ask.now.list.now ask.now.index ask.now.word picks) }
     {
         let list = ask.list.as_slice();
         if list.is_empty() {
@@ -82,11 +84,16 @@ impl Routes {
         }
     }
 
-    /// Makes room for one pick of a job. It changes nothing else, whatever it answers.
+    /// Makes room for one pick of a job. It changes nothing else, whatever it answers. A job whose
+    /// picks can't be counted on has no room for one more.
     pub fn reserve(&mut self, job: JobId) -> Result<(), NoMemory>
         ensures ok { OnOk result (HasRoom self.new.room job) }
+        ensures fewer { OnOk result ((counts_of self.new.kept job).number < 2 ^ 64 - 1) }
         ensures same { self.new.kept ≡ self.old.kept }
     {
+        if self.number_of_picks(job) == u64::MAX {
+            return Err(NoMemory);
+        }
         reserve_for(&mut self.jobs, &mut self.fresh, job.get())
     }
 
@@ -94,6 +101,7 @@ impl Routes {
     pub fn pick(&mut self, job: JobId, address: Text)
         requires room { HasRoom self.old.room job }
         requires fewer { (counts_of self.old.kept job).number < 2 ^ 64 - 1 }
+        ensures kept { self.new.kept ≡ with_pick self.old.kept job address }
         ensures picked { (picks : List (List ℕ)) → ArePicksOf self.old.kept job picks → ArePicksOf self.new.kept job (picks ++ address ∷ []) }
         ensures others { (other : ℕ) → other ≢ job → counts_of self.new.kept other ≡ counts_of self.old.kept other }
     {

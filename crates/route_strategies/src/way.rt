@@ -3,6 +3,7 @@ ghost use Rattle.std.specs.Prelude.{◌≡◌, ◌<◌, ℕ, List, length, nat_l
 ghost use Rattle.route_strategies.specs.Choice.{GivesPlace};
 ghost use Rattle.route_strategies.specs.Way.{IsWay, IsInside};
 ghost use Rattle.route_strategies.specs.Picks.{IsPicks};
+ghost use Rattle.route_strategies.specs.Chosen.{chosen, choice_at};
 
 use super::ask::RouteAsk;
 use super::hash::hash_place;
@@ -22,6 +23,7 @@ pub(crate) enum Way {
 pub(crate) fn way_of(ask: &RouteAsk<'_>, list: &[Address], picks: &JobPicks) -> Way
     requires { 0 < length list.now }
     ensures within { IsInside list.now result }
+    ensures exact { (sofar : List (List ℕ)) → IsPicks picks.now.kept sofar → choice_at list.now result ≡ chosen ask.now.route ask.now.job list.now ask.now.index ask.now.word sofar }
     ensures way { (sofar : List (List ℕ)) → IsPicks picks.now.kept sofar → IsWay ask.now.route ask.now.job list.now ask.now.index ask.now.word sofar result }
 {
     match ask.route {
@@ -57,9 +59,9 @@ pub(crate) fn copied_list(alloc: Global, list: &Addresses) -> Result<Addresses, 
     ensures { IfOk result (λ copied. copied ≡ list.now) }
 {
     let addresses = list.as_slice();
-    let mut copied = Vec::with_capacity(alloc, addresses.len()).map_err(|_| NoMemory)?;
+    let mut copied = Vec::with_capacity(alloc, addresses.len())?;
     for address in addresses {
-        copied.push(address.copy(alloc)?).map_err(|_| NoMemory)?;
+        copied.push(address.copy(alloc)?)?;
     }
     Ok(Addresses::of(Seq::of(copied)))
 }

@@ -57,8 +57,8 @@ pub(crate) fn first_front(lanes: &IndexMap<u32, VecDeque<Queued>>, job: JobId) -
     }
 }
 
-/// Takes the first run of a job out.
-pub(crate) fn pop(lanes: &mut IndexMap<u32, VecDeque<Queued>>, job: JobId) -> Option<Queued>
+/// Takes the first run of a job out of its queue.
+fn pop_first(lanes: &mut IndexMap<u32, VecDeque<Queued>>, job: JobId) -> Option<Queued>
     ensures result { result ≡ first_of (queue_of job lanes.old.entries) }
     ensures queues { (j : ℕ) → queue_of j lanes.new.entries ≡ (if job == j then drop 1 (queue_of job lanes.old.entries) else queue_of j lanes.old.entries) }
     ensures once { IsUnique nat_eq lanes.new }
@@ -67,6 +67,28 @@ pub(crate) fn pop(lanes: &mut IndexMap<u32, VecDeque<Queued>>, job: JobId) -> Op
         None => None,
         Some(lane) => lane.pop_front(),
     }
+}
+
+/// Lets the queue of a job go, if it is empty.
+pub(crate) fn drop_empty(lanes: &mut IndexMap<u32, VecDeque<Queued>>, job: JobId)
+    requires { IsUnique nat_eq lanes.old }
+    ensures queues { (j : ℕ) → queue_of j lanes.new.entries ≡ queue_of j lanes.old.entries }
+    ensures once { IsUnique nat_eq lanes.new }
+{
+    if !waits(lanes, job) {
+        let _gone = lanes.swap_remove(&job.get());
+    }
+}
+
+/// Takes the first run of a job out. A queue that is left empty goes.
+pub(crate) fn pop(lanes: &mut IndexMap<u32, VecDeque<Queued>>, job: JobId) -> Option<Queued>
+    ensures result { result ≡ first_of (queue_of job lanes.old.entries) }
+    ensures queues { (j : ℕ) → queue_of j lanes.new.entries ≡ (if job == j then drop 1 (queue_of job lanes.old.entries) else queue_of j lanes.old.entries) }
+    ensures once { IsUnique nat_eq lanes.new }
+{
+    let taken = pop_first(lanes, job);
+    drop_empty(lanes, job);
+    taken
 }
 
 /// Empties the queue of a job.
@@ -125,7 +147,7 @@ pub(crate) fn reserve(
         Some(lane) => lane.reserve(1).map_err(|_| NoMemory),
         None => {
             let mut lane = VecDeque::new(alloc);
-            lane.reserve(1).map_err(|_| NoMemory)?;
+            lane.reserve(1)?;
             add_lane(lanes, job, lane)
         }
     }

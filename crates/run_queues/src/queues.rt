@@ -106,7 +106,7 @@ impl Queues {
         ensures last { self.new.last ≡ self.old.last }
         ensures room { OnOk result (HasRoom job self.new) }
     {
-        self.fronts.reserve(1).map_err(|_| NoMemory)?;
+        self.fronts.reserve(1)?;
         lanes::reserve(alloc, &mut self.lanes, job)
     }
 
@@ -135,6 +135,14 @@ impl Queues {
     {
         ready::take_first(&mut self.fronts, lanes::first_front(&self.lanes, job));
         lanes::clear(&mut self.lanes, job);
+    }
+
+    /// Lets the queue of a job go, if no run of it waits. It takes no memory.
+    pub fn forget(&mut self, job: JobId)
+        ensures runs { self.new.runs ≡ self.old.runs }
+        ensures last { self.new.last ≡ self.old.last }
+    {
+        lanes::drop_empty(&mut self.lanes, job);
     }
 
     /// Takes the ready front away. It takes no memory.

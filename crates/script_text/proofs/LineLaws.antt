@@ -1,7 +1,7 @@
 -- What reading says of lines.
 use Rattle.std.proofs.Common.{◌≡◌, ℕ, ◌+◌, ◌-◌, ◌≤◌, List, [], ◌∷◌, ◌++◌, length, Result, Ok, Err, refl, sym, ap, subst, ◌∙◌, append_assoc, arith, length-append}
 use Rattle.std.proofs.lemmas.List.{append-nil, nil_from_length}
-use Rattle.job_values.specs.declared.cluster.ClusterEvent.{ClusterEvent}
+use Rattle.job_events.specs.declared.cluster.ClusterEvent.{ClusterEvent}
 use Rattle.line_grammar.specs.Languages.{Reads}
 use Rattle.line_grammar.specs.Grammar.{Says, reading}
 use Rattle.script_text.specs.Lines.{line, IsLine}

@@ -15,7 +15,6 @@ use Rattle.job_values.specs.declared.words.Route.TheVariants.{First, Last, Round
 use Rattle.job_values.specs.Words.{schedule_kind_text, misfire_text, route_text, block_text, group_kind_text}
 use Rattle.line_grammar.specs.declared.ends.End.{End}
 use Rattle.line_grammar.specs.declared.ends.End.TheVariants.{Space, Line}
-use Rattle.line_grammar.specs.declared.numbers.NumberForm.{NumberForm}
 use Rattle.line_grammar.specs.declared.texts.TextForm.{TextForm}
 use Rattle.line_grammar.specs.Ends.{end_byte}
 use Rattle.line_grammar.specs.Numbers.{is_number_form}
@@ -24,10 +23,11 @@ use Rattle.line_grammar.specs.Choices.{IsWord, are_apart}
 use Rattle.line_grammar.specs.Dashes.{number_form}
 use Rattle.line_grammar.specs.Lists.{count_form}
 use Rattle.line_grammar.specs.Writing.{quoted, optional_text, counted_texts, counted_numbers}
-use Rattle.line_grammar.specs.Grammar.{Grammar, Gives, Number, Text, Optional, Choice, TextList, NumberList, Says}
+use Rattle.line_grammar.specs.Grammar.{Grammar, Gives, Number, Text, Optional, Choice, TextList, EndedNumbers, Says}
 use Rattle.line_grammar.specs.Parts.{and_then}
 use Rattle.line_grammar.specs.Laws.{IsNumberOf, IsTextOf}
-use Rattle.line_grammar.proofs.Spellings.{number_whole, text_whole, optional_said, optional_found, text_list_said, text_list_found, number_list_said, number_list_found}
+use Rattle.line_grammar.proofs.Decimals.{number_whole}
+use Rattle.line_grammar.proofs.Spellings.{text_whole, optional_said, optional_found, text_list_said, text_list_found, number_list_said, number_list_found, within_ends}
 use Rattle.line_grammar.proofs.PartLaws.{part_said, part_found}
 use Rattle.script_text.specs.Words.{group_kind, group_kind_at, schedule_kind, schedule_kind_at, misfire, misfire_at, route, route_at, route_words, block, block_at}
 use Rattle.script_text.specs.Spelling.{IsBuiltRoute}
@@ -60,9 +60,9 @@ pub say_texts : {E : Type 0} (most least greatest : ℕ) {counts : is_number_for
     → IsSaid (TextList most (text_form least greatest Line) counts ok next) e ((counted_texts ts ++ 10 ∷ []) ++ rest)
 say_texts most least greatest {rest = rest} ts le h s = record { says = (ts, counted_texts ts ++ 10 ∷ [], rest, text_list_said most (text_form least greatest Line) ts le h, s.says, refl) }
 
-pub say_numbers : {E : Type 0} (most least greatest : ℕ) {counts : is_number_form (count_form most Line) ≡ true} {ok : is_number_form (number_form least greatest Line) ≡ true} {next : List ℕ → Grammar E} {e : E} {rest : List ℕ} (ns : List ℕ) → length ns ≤ most → AllByRecursion (IsNumberOf (number_form least greatest Line)) ns → IsSaid (next ns) e rest
-    → IsSaid (NumberList most (number_form least greatest Line) counts ok next) e ((counted_numbers ns ++ 10 ∷ []) ++ rest)
-say_numbers most least greatest {rest = rest} ns le h s = record { says = (ns, counted_numbers ns ++ 10 ∷ [], rest, number_list_said most (number_form least greatest Line) ns le h, s.says, refl) }
+pub say_ended : {E : Type 0} (most least greatest : ℕ) (end : End) {counts : is_number_form (count_form most Space) ≡ true} {ok : is_number_form (number_form least greatest Space) ≡ true} {next : End → List ℕ → Grammar E} {e : E} {rest : List ℕ} (ns : List ℕ) → length ns ≤ most → AllByRecursion (IsNumberOf (number_form least greatest Line)) ns → IsSaid (next end ns) e rest
+    → IsSaid (EndedNumbers most least greatest counts ok next) e ((counted_numbers ns ++ end_byte end ∷ []) ++ rest)
+say_ended most least greatest end {rest = rest} ns le h s = record { says = ((end, ns), counted_numbers ns ++ end_byte end ∷ [], rest, number_list_said most (number_form least greatest end) ns le (within_ends least greatest Line end ns h), s.says, refl) }
 
 -- the word at some place says the value that stands for it
 pub record HasWord {V : Type 0} (words : List (List ℕ)) (at : ℕ → V) (v : V) (text : List ℕ) : Type 0 where
@@ -113,11 +113,11 @@ only_texts {S = S} most form {front = front} on = record {
       subst (λ (t : List ℕ). S e (front t)) (sym (h.5 ∙ ap (λ (x : List ℕ). x ++ h.2) (text_list_found most form h.0 h.1 h.3))) ((on h.0).holds e h.2 h.4);
 }
 
-pub only_numbers : {E : Type 0} {S : E → List ℕ → Type 0} (most : ℕ) (form : NumberForm) {counts : is_number_form (count_form most form.behind) ≡ true} {ok : is_number_form form ≡ true} {next : List ℕ → Grammar E} {front : List ℕ → List ℕ} → ((ns : List ℕ) → SaysOnly S (next ns) (λ rest. front ((counted_numbers ns ++ end_byte form.behind ∷ []) ++ rest)))
-    → SaysOnly S (NumberList most form counts ok next) front
-only_numbers {S = S} most form {front = front} on = record {
+pub only_ended : {E : Type 0} {S : E → List ℕ → Type 0} (most least greatest : ℕ) {counts : is_number_form (count_form most Space) ≡ true} {ok : is_number_form (number_form least greatest Space) ≡ true} {next : End → List ℕ → Grammar E} {front : List ℕ → List ℕ} → ((end : End) (ns : List ℕ) → SaysOnly S (next end ns) (λ rest. front ((counted_numbers ns ++ end_byte end ∷ []) ++ rest)))
+    → SaysOnly S (EndedNumbers most least greatest counts ok next) front
+only_ended {S = S} most least greatest {front = front} on = record {
   holds = λ e text h.
-      subst (λ (t : List ℕ). S e (front t)) (sym (h.5 ∙ ap (λ (x : List ℕ). x ++ h.2) (number_list_found most form h.0 h.1 h.3))) ((on h.0).holds e h.2 h.4);
+      subst (λ (t : List ℕ). S e (front t)) (sym (h.5 ∙ ap (λ (x : List ℕ). x ++ h.2) (number_list_found most (number_form least greatest h.0.0) h.0.1 h.1 h.3))) ((on h.0.0 h.0.1).holds e h.2 h.4);
 }
 
 -- something of each word, by its place

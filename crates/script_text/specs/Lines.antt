@@ -1,14 +1,16 @@
 -- The lines of a script.
 use Rattle.std.specs.Prelude.{ℕ, refl, ◌==◌, if◌then◌else◌, List, [], ◌∷◌, codes, Result}
-use Rattle.job_values.specs.declared.cluster.ClusterEvent.{ClusterEvent}
-use Rattle.job_values.specs.declared.cluster.ClusterEvent.TheVariants.{NodeStart, NodeStop, NodeAsk, AddGroup, SetGroup, AddJob, UpdateJob, StartJob, StopJob, RemoveJob, TriggerJob, ScanBegin, ScanStep, Turn, ReadLog, Reopen}
-use Rattle.job_values.specs.declared.job.JobSpec.{JobSpec}
+use Rattle.job_events.specs.declared.cluster.ClusterEvent.{ClusterEvent}
+use Rattle.job_events.specs.declared.cluster.ClusterEvent.TheVariants.{NodeStart, NodeStop, NodeAsk, AddGroup, SetGroup, AddJob, UpdateJob, StartJob, StopJob, RemoveJob, TriggerJob, ScanBegin, ScanStep, Turn, ReadLog, Reopen}
+use Rattle.job_values.specs.declared.spec.JobSpec.{JobSpec}
+use Rattle.line_grammar.specs.declared.ends.End.{End}
 use Rattle.line_grammar.specs.declared.ends.End.TheVariants.{Space, Line}
 use Rattle.line_grammar.specs.Texts.{text_form}
 use Rattle.line_grammar.specs.Dashes.{number_form}
-use Rattle.line_grammar.specs.Grammar.{Grammar, Gives, Number, Text, TextList, NumberList, Choice, Says, reading}
+use Rattle.line_grammar.specs.Grammar.{Grammar, Gives, Number, Text, TextList, EndedNumbers, Choice, Says, reading}
 use Rattle.line_grammar.specs.Parts.{and_then}
 use Rattle.script_text.specs.Words.{admin, moment, id, log, param, group_kind, schedule_kind, misfire, route, block}
+use Rattle.job_values.specs.declared.limits.TheConstants.{LAST_JOB_ID, LAST_SECONDS, LAST_RETRIES, LONGEST_PARAM, LONGEST_SCHEDULE_GIVEN, LONGEST_NAME, LONGEST_APP, MOST_ADDRESSES, MOST_CHILDREN}
 
 -- ---- admins
 
@@ -40,11 +42,11 @@ turn_line = admin Space (λ a. moment Line (λ at. Gives (Turn a at)))
 
 -- LIST at the end of a line: a count and that many addresses
 abbrev pub addresses : (List (List ℕ) → ClusterEvent) → Grammar ClusterEvent
-addresses event = TextList 256 (text_form 1 255 Line) refl refl (λ texts. Gives (event texts))
+addresses event = TextList MOST_ADDRESSES (text_form 1 LONGEST_NAME Line) refl refl (λ texts. Gives (event texts))
 
 -- addgroup TEXT GROUPKIND LIST: the app, who writes the addresses, the addresses
 abbrev pub addgroup_line : Grammar ClusterEvent
-addgroup_line = Text (text_form 1 64 Space) refl (λ app. group_kind (λ kind. addresses (AddGroup app kind)))
+addgroup_line = Text (text_form 1 LONGEST_APP Space) refl (λ app. group_kind (λ kind. addresses (AddGroup app kind)))
 
 -- setgroup G GROUPKIND LIST
 abbrev pub setgroup_line : Grammar ClusterEvent
@@ -52,14 +54,23 @@ setgroup_line = id Space (λ group. group_kind (λ kind. addresses (SetGroup gro
 
 -- ---- jobs
 
--- SPEC: G KIND TEXT MISFIRE ROUTE BLOCK TEXT TEXT TIMEOUT RETRIES n J1 .. Jn, the texts being schedule, handler and parameter
+-- the zone of a spec: none where LF ends the children, or else the word and a text of at least one byte
+abbrev pub zone : End → Grammar (List ℕ)
+zone Line = Gives []
+zone Space = Choice (codes "zone ") [] refl (λ i. Text (text_form 1 LONGEST_NAME Line) refl (λ text. Gives text))
+
+-- reading the zone of a spec
+unfoldable pub zone_at : End → List ℕ → Result (List ℕ × List ℕ) ℕ
+zone_at end bytes = reading (zone end) bytes
+
+-- SPEC: G KIND TEXT MISFIRE ROUTE BLOCK TEXT TEXT TIMEOUT RETRIES n J1 .. Jn, the texts being schedule, handler and parameter; where it names a zone, then ` zone` and a TEXT
 abbrev pub spec : Grammar JobSpec
 spec =
-    id Space (λ group. schedule_kind (λ kind. Text (text_form 0 1024 Space) refl (λ schedule. misfire (λ misfire. route (λ route. block (λ block.
-    Text (text_form 0 255 Space) refl (λ handler. Text (text_form 0 512 Space) refl (λ param.
-    Number (number_form 0 2147483647 Space) refl (λ timeout. Number (number_form 0 100 Space) refl (λ retries.
-    NumberList 64 (number_form 1 2147483647 Line) refl refl (λ children.
-    Gives (record { group = group; kind = kind; schedule = schedule; misfire = misfire; route = route; block = block; handler = handler; param = param; timeout = timeout; retries = retries; children = children }))))))))))))
+    id Space (λ group. schedule_kind (λ kind. Text (text_form 0 LONGEST_SCHEDULE_GIVEN Space) refl (λ schedule. misfire (λ misfire. route (λ route. block (λ block.
+    Text (text_form 0 LONGEST_NAME Space) refl (λ handler. Text (text_form 0 LONGEST_PARAM Space) refl (λ param.
+    Number (number_form 0 LAST_SECONDS Space) refl (λ timeout. Number (number_form 0 LAST_RETRIES Space) refl (λ retries.
+    EndedNumbers MOST_CHILDREN 1 LAST_JOB_ID refl refl (λ end children. and_then (zone end) (λ zone.
+    Gives (record { group = group; kind = kind; schedule = schedule; misfire = misfire; route = route; block = block; handler = handler; param = param; timeout = timeout; retries = retries; children = children; zone = zone })))))))))))))
 
 -- reading a spec
 unfoldable pub spec_at : List ℕ → Result (JobSpec × List ℕ) ℕ

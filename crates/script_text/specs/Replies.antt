@@ -2,14 +2,14 @@
 use Rattle.std.specs.Prelude.{ℕ, Bool, true, false, List, [], ◌∷◌, ◌++◌, length, codes, Option, Some, None}
 use Rattle.std.specs.List.{flat_map}
 use Rattle.std.specs.Fmt.{signed_decimal}
-use Rattle.job_values.specs.declared.cluster.ClusterReply.{ClusterReply}
-use Rattle.job_values.specs.declared.cluster.ClusterReply.TheVariants.{Done, Group, Job, Running, Updated, Halted, Begun, Skip, Look, Fired, Opened as OpenedLogs, Shown, Stopped, Reopened, Refused}
-use Rattle.job_values.specs.declared.cluster.ClusterRefusal.{ClusterRefusal}
-use Rattle.job_values.specs.declared.cluster.ClusterRefusal.TheVariants.{NodeRunning, NodeStopped, Busy, NotScanning, NoGroup, NoJob, NoLog, BadSchedule, NoNext, TooMany, IdsSpent}
-use Rattle.job_values.specs.declared.job.Opened.{Opened}
-use Rattle.job_values.specs.declared.job.FiredTicket.{FiredTicket}
-use Rattle.job_values.specs.declared.job.ShownLog.{ShownLog}
-use Rattle.job_values.specs.declared.job.Report.{Report}
+use Rattle.job_events.specs.declared.cluster.ClusterReply.{ClusterReply}
+use Rattle.job_events.specs.declared.cluster.ClusterReply.TheVariants.{Done, Group, Job, Running, Updated, Halted, Begun, Skip, Look, Fired, Opened as OpenedLogs, Shown, Stopped, Reopened, Refused}
+use Rattle.job_events.specs.declared.cluster.ClusterRefusal.{ClusterRefusal}
+use Rattle.job_events.specs.declared.cluster.ClusterRefusal.TheVariants.{NodeRunning, NodeStopped, Busy, NotScanning, NoGroup, NoJob, NoLog, BadSchedule, BadZone, NoNext, TooMany, IdsSpent}
+use Rattle.job_events.specs.declared.opened.Opened.{Opened}
+use Rattle.job_events.specs.declared.opened.FiredTicket.{FiredTicket}
+use Rattle.job_events.specs.declared.shown_log.ShownLog.{ShownLog}
+use Rattle.job_events.specs.declared.report.Report.{Report}
 use Rattle.line_grammar.specs.Writing.{spaced_number, spaced_text, optional_text}
 use Rattle.job_values.specs.Words.{case_text, pool_answer_text, trigger_kind_text}
 
@@ -61,6 +61,7 @@ refusal_text NoGroup = codes "NoGroup"
 refusal_text NoJob = codes "NoJob"
 refusal_text NoLog = codes "NoLog"
 refusal_text (BadSchedule fault) = codes "BadSchedule" ++ spaced_number fault.field ++ spaced_number fault.place
+refusal_text (BadZone fault) = codes "BadZone" ++ spaced_number fault.place
 refusal_text NoNext = codes "NoNext"
 refusal_text (TooMany limit) = codes "TooMany" ++ spaced_number limit
 refusal_text IdsSpent = codes "IdsSpent"

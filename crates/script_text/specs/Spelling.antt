@@ -7,11 +7,12 @@ use Rattle.line_grammar.specs.declared.ends.End.TheVariants.{Line}
 use Rattle.line_grammar.specs.Texts.{text_form}
 use Rattle.line_grammar.specs.Dashes.{number_form}
 use Rattle.line_grammar.specs.Laws.{IsTextOf, IsNumberOf}
-use Rattle.job_values.specs.declared.cluster.ClusterEvent.{ClusterEvent}
-use Rattle.job_values.specs.declared.cluster.ClusterEvent.TheVariants.{NodeStart, NodeStop, NodeAsk, AddGroup, SetGroup, AddJob, UpdateJob, StartJob, StopJob, RemoveJob, TriggerJob, ScanBegin, ScanStep, Turn, ReadLog, Reopen}
-use Rattle.job_values.specs.declared.job.JobSpec.{JobSpec}
+use Rattle.job_events.specs.declared.cluster.ClusterEvent.{ClusterEvent}
+use Rattle.job_events.specs.declared.cluster.ClusterEvent.TheVariants.{NodeStart, NodeStop, NodeAsk, AddGroup, SetGroup, AddJob, UpdateJob, StartJob, StopJob, RemoveJob, TriggerJob, ScanBegin, ScanStep, Turn, ReadLog, Reopen}
+use Rattle.job_values.specs.declared.spec.JobSpec.{JobSpec}
 use Rattle.job_values.specs.Words.{schedule_kind_text, misfire_text, route_text, block_text, group_kind_text}
 use Rattle.line_grammar.specs.Writing.{quoted, optional_text, spaced_text, spaced_number, counted_texts, counted_numbers}
+use Rattle.job_values.specs.declared.limits.TheConstants.{LAST_ADMIN, LAST_MOMENT, LAST_LOG_ID, LAST_JOB_ID, LAST_SECONDS, LAST_RETRIES, LONGEST_PARAM, LONGEST_SCHEDULE_GIVEN, LONGEST_NAME, LONGEST_APP, MOST_ADDRESSES, MOST_CHILDREN}
 
 -- when a job fires and where it runs: G KIND TEXT MISFIRE ROUTE BLOCK
 abbrev pub trigger_text : JobSpec → List ℕ
@@ -21,9 +22,14 @@ trigger_text s = decimal s.group ++ 32 ∷ schedule_kind_text s.kind ++ spaced_t
 abbrev pub work_text : JobSpec → List ℕ
 work_text s = spaced_text s.handler ++ spaced_text s.param ++ spaced_number s.timeout ++ spaced_number s.retries ++ 32 ∷ counted_numbers s.children
 
+-- the zone that a spec names, behind its word
+abbrev pub zone_text : List ℕ → List ℕ
+zone_text [] = []
+zone_text (b ∷ zone) = codes " zone " ++ quoted (b ∷ zone)
+
 -- the words of a spec
 abbrev pub spec_text : JobSpec → List ℕ
-spec_text s = trigger_text s ++ work_text s
+spec_text s = trigger_text s ++ work_text s ++ zone_text s.zone
 
 -- an event's line without its LF
 abbrev pub event_words : ClusterEvent → List ℕ
@@ -61,7 +67,7 @@ IsBuiltRoute routes.Failover = Unit {0}
 IsBuiltRoute routes.Busyover = Unit {0}
 IsBuiltRoute routes.ShardingBroadcast = ⊥
 
--- what is built by now of what the types allow: no broadcast
+-- what is built by now of what the types allow
 abbrev pub IsBuilt : ClusterEvent → Type 0
 IsBuilt (AddJob s) = IsBuiltRoute s.route
 IsBuilt (UpdateJob at job s) = IsBuiltRoute s.route
@@ -69,46 +75,47 @@ IsBuilt event = Unit {0}
 
 -- an admin's number, a moment, a group's or a job's id, a log's id, a parameter or none
 abbrev pub IsAdmin : ℕ → Type 0
-IsAdmin a = a ≤ 15
+IsAdmin a = a ≤ LAST_ADMIN
 
 abbrev pub IsMoment : ℕ → Type 0
-IsMoment at = at ≤ 4102444799999
+IsMoment at = at ≤ LAST_MOMENT
 
 abbrev pub IsId : ℕ → Type 0
-IsId id = IsNumberOf (number_form 1 2147483647 Line) id
+IsId id = IsNumberOf (number_form 1 LAST_JOB_ID Line) id
 
 abbrev pub IsLog : ℕ → Type 0
-IsLog l = IsNumberOf (number_form 1 9223372036854775807 Line) l
+IsLog l = IsNumberOf (number_form 1 LAST_LOG_ID Line) l
 
 abbrev pub IsParam : Option (List ℕ) → Type 0
-IsParam own = IfSome own (IsTextOf (text_form 0 512 Line))
+IsParam own = IfSome own (IsTextOf (text_form 0 LONGEST_PARAM Line))
 
 -- what a job runs is within its bounds
 pub record WorkFits (s : JobSpec) : Type 0 where
-  pub handler : IsTextOf (text_form 0 255 Line) s.handler
-  pub param : IsTextOf (text_form 0 512 Line) s.param
-  pub timeout : s.timeout ≤ 2147483647
-  pub retries : s.retries ≤ 100
-  pub count : length s.children ≤ 64
-  pub children : AllByRecursion (IsNumberOf (number_form 1 2147483647 Line)) s.children
+  pub handler : IsTextOf (text_form 0 LONGEST_NAME Line) s.handler
+  pub param : IsTextOf (text_form 0 LONGEST_PARAM Line) s.param
+  pub timeout : s.timeout ≤ LAST_SECONDS
+  pub retries : s.retries ≤ LAST_RETRIES
+  pub count : length s.children ≤ MOST_CHILDREN
+  pub children : AllByRecursion (IsNumberOf (number_form 1 LAST_JOB_ID Line)) s.children
 
 -- the values of a spec are within their bounds
 pub record SpecFits (s : JobSpec) : Type 0 where
   pub group : IsId s.group
-  pub schedule : IsTextOf (text_form 0 1024 Line) s.schedule
+  pub schedule : IsTextOf (text_form 0 LONGEST_SCHEDULE_GIVEN Line) s.schedule
   pub work : WorkFits s
+  pub zone : IsTextOf (text_form 0 LONGEST_NAME Line) s.zone
 
 -- the addresses of a group are within their bounds
 pub record AddressesFit (addresses : List (List ℕ)) : Type 0 where
-  pub count : length addresses ≤ 256
-  pub texts : AllByRecursion (IsTextOf (text_form 1 255 Line)) addresses
+  pub count : length addresses ≤ MOST_ADDRESSES
+  pub texts : AllByRecursion (IsTextOf (text_form 1 LONGEST_NAME Line)) addresses
 
 -- the values of an event are within their bounds, as its type has them
 abbrev pub IsWithin : ClusterEvent → Type 0
 IsWithin (NodeStart a) = IsAdmin a
 IsWithin (NodeStop a) = IsAdmin a
 IsWithin (NodeAsk a) = IsAdmin a
-IsWithin (AddGroup app kind addresses) = IsTextOf (text_form 1 64 Line) app × AddressesFit addresses
+IsWithin (AddGroup app kind addresses) = IsTextOf (text_form 1 LONGEST_APP Line) app × AddressesFit addresses
 IsWithin (SetGroup group kind addresses) = IsId group × AddressesFit addresses
 IsWithin (AddJob s) = SpecFits s
 IsWithin (UpdateJob at job s) = IsMoment at × IsId job × SpecFits s

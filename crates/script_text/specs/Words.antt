@@ -14,26 +14,27 @@ use Rattle.line_grammar.specs.declared.ends.End.{End}
 use Rattle.line_grammar.specs.Dashes.{number_form}
 use Rattle.line_grammar.specs.Texts.{text_form}
 use Rattle.line_grammar.specs.Grammar.{Grammar, Number, Optional, Choice}
+use Rattle.job_values.specs.declared.limits.TheConstants.{LAST_ADMIN, LAST_MOMENT, LAST_LOG_ID, LAST_JOB_ID, LONGEST_PARAM}
 
 -- the number of an admin
 abbrev pub admin : {E : Type 0} → End → (ℕ → Grammar E) → Grammar E
-admin end next = Number (number_form 0 15 end) refl next
+admin end next = Number (number_form 0 LAST_ADMIN end) refl next
 
 -- a moment
 abbrev pub moment : {E : Type 0} → End → (ℕ → Grammar E) → Grammar E
-moment end next = Number (number_form 0 4102444799999 end) refl next
+moment end next = Number (number_form 0 LAST_MOMENT end) refl next
 
 -- a group's or a job's id
 abbrev pub id : {E : Type 0} → End → (ℕ → Grammar E) → Grammar E
-id end next = Number (number_form 1 2147483647 end) refl next
+id end next = Number (number_form 1 LAST_JOB_ID end) refl next
 
 -- a log's id
 abbrev pub log : {E : Type 0} → End → (ℕ → Grammar E) → Grammar E
-log end next = Number (number_form 1 9223372036854775807 end) refl next
+log end next = Number (number_form 1 LAST_LOG_ID end) refl next
 
 -- the parameter of a firing by hand, or `-` for the job's own
 abbrev pub param : {E : Type 0} → End → (Option (List ℕ) → Grammar E) → Grammar E
-param end next = Optional (text_form 0 512 end) refl next
+param end next = Optional (text_form 0 LONGEST_PARAM end) refl next
 
 abbrev pub group_kind_at : ℕ → GroupKind
 group_kind_at i = if i == 0 then Auto else Manual

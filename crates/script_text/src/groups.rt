@@ -1,4 +1,5 @@
 //! Lines of groups, read word by word.
+ghost use Rattle.job_values.specs.declared.limits.TheConstants.{LONGEST_NAME, MOST_ADDRESSES};
 ghost use Rattle.std.specs.Prelude.{◌≡◌};
 ghost use Rattle.line_grammar.specs.Reading.{Takes};
 ghost use Rattle.line_grammar.specs.Grammar.{reading};
@@ -8,14 +9,16 @@ ghost use Rattle.line_grammar.specs.Texts.{text_form};
 ghost use Rattle.script_text.specs.Lines.{addgroup_line, setgroup_line};
 
 use crate::words::{group, group_kind, group_kind_word};
-use job_values::{Addresses, ClusterEvent, Seq};
+use job_events::ClusterEvent;
+use job_values::limits::MOST_ADDRESSES;
+use job_values::{Addresses, Seq};
 use line_grammar::{End, ReadError, Reader};
 use std::alloc::Global;
 
 fn addresses(reader: &mut Reader, alloc: Global) -> Result<Addresses, ReadError>
-    ensures { Takes (λ v. v) result reader.new.rest.now (text_list_at 256 (text_form 1 255 End.Line) reader.old.rest.now) }
+    ensures { Takes (λ v. v) result reader.new.rest.now (text_list_at MOST_ADDRESSES (text_form 1 LONGEST_NAME End.Line) reader.old.rest.now) }
 {
-    let addresses = reader.text_list(alloc, 256, End::Line)?;
+    let addresses = reader.text_list(alloc, MOST_ADDRESSES as u32, End::Line)?;
     Ok(Addresses::of(Seq::of(addresses)))
 }
 

@@ -1,25 +1,28 @@
 //! Lines of jobs and of their logs, read word by word.
-ghost use Rattle.std.specs.Prelude.{◌≡◌, MatchResult};
+ghost use Rattle.job_values.specs.declared.limits.TheConstants.{LAST_JOB_ID, MOST_CHILDREN};
+ghost use Rattle.std.specs.Prelude.{◌≡◌, [], MatchResult, IfOk};
 ghost use Rattle.line_grammar.specs.Reading.{Takes};
 ghost use Rattle.line_grammar.specs.Grammar.{reading};
-ghost use Rattle.line_grammar.specs.Dashes.{number_form, optional_at};
-ghost use Rattle.line_grammar.specs.Lists.{number_list_at};
+ghost use Rattle.line_grammar.specs.Dashes.{number_form};
+ghost use Rattle.line_grammar.specs.Lists.{ended_numbers_at};
 ghost use Rattle.line_grammar.specs.Texts.{text_form};
 ghost use Rattle.line_grammar.specs.Laws.{IsNumberOf};
 ghost use Rattle.std.specs.List.{AllByRecursion};
-ghost use Rattle.script_text.specs.Lines.{spec_at, addjob_line, setjob_line, startjob_line, stopjob_line, dropjob_line, fire_line, showlog_line};
+ghost use Rattle.script_text.specs.Lines.{zone_at, spec_at, addjob_line, setjob_line, startjob_line, stopjob_line, dropjob_line, fire_line, showlog_line};
 
 use crate::words::{
     admin, block, block_word, group, job, log, misfire, misfire_word, moment, retries, route,
     route_word, schedule_kind, schedule_kind_word, timeout,
 };
-use job_values::{Children, ClusterEvent, JobId, JobSpec, Seq};
-use line_grammar::{End, NumberForm, ReadError, Reader};
+use job_events::ClusterEvent;
+use job_values::limits::{LAST_JOB_ID, LONGEST_NAME, MOST_CHILDREN};
+use job_values::{BoundedText, Children, JobId, JobSpec, NoMemory, Seq, Text, ZoneText};
+use line_grammar::{End, ReadError, Reader, TextForm};
 use std::alloc::Global;
 
 /// The ids that numbers within the bounds are.
 fn ids(alloc: Global, numbers: &[u64]) -> Result<Vec<JobId>, ReadError>
-    requires { AllByRecursion (IsNumberOf (number_form 1 2147483647 End.Line)) numbers.now }
+    requires { AllByRecursion (IsNumberOf (number_form 1 LAST_JOB_ID End.Line)) numbers.now }
     ensures { MatchResult result (λ v. v.items ≡ numbers.now) (λ e. e ≡ ReadError.Memory) }
 {
     let mut ids = Vec::new(alloc);
@@ -32,21 +35,56 @@ fn ids(alloc: Global, numbers: &[u64]) -> Result<Vec<JobId>, ReadError>
     Ok(ids)
 }
 
-fn children(reader: &mut Reader, alloc: Global) -> Result<Children, ReadError>
-    ensures { Takes (λ v. v) result reader.new.rest.now (number_list_at 64 (number_form 1 2147483647 End.Line) reader.old.rest.now) }
+/// The children of a job, and what stands behind them.
+fn children(reader: &mut Reader, alloc: Global) -> Result<(End, Children), ReadError>
+    ensures { Takes (λ v. v) result reader.new.rest.now (ended_numbers_at MOST_CHILDREN 1 LAST_JOB_ID reader.old.rest.now) }
 {
-    let numbers = reader.number_list(
+    let (end, numbers) = reader.ended_numbers(
         alloc,
-        64,
-        NumberForm {
+        MOST_CHILDREN as u32,
+        1,
+        u64::from(LAST_JOB_ID),
+    )?;
+    let ids = ids(alloc, numbers.as_slice())?;
+    Ok((end, Children::of(Seq::of(ids))))
+}
+
+/// The zone of a spec that names none.
+fn no_zone(alloc: Global) -> Result<ZoneText, NoMemory>
+    ensures { IfOk result (λ zone. zone ≡ []) }
+{
+    Ok(BoundedText::of(Text::copied(alloc, "")?))
+}
+
+/// The word in front of a zone, and the zone.
+#[tactic(auto, unfolding(crate::specs::Lines::zone_at))]
+fn named_zone(reader: &mut Reader, alloc: Global) -> Result<ZoneText, ReadError>
+    ensures { Takes (λ z. z) result reader.new.rest.now (zone_at End.Space reader.old.rest.now) }
+{
+    reader.choice(&["zone "])?;
+    let zone = reader.text(
+        alloc,
+        TextForm {
             least: 1,
-            greatest: 2_147_483_647,
-            behind_zero: End::Line,
+            greatest: LONGEST_NAME,
             behind: End::Line,
         },
     )?;
-    let ids = ids(alloc, numbers.as_slice())?;
-    Ok(Children::of(Seq::of(ids)))
+    Ok(BoundedText::of(zone))
+}
+
+/// The zone of a spec whose children this end stands behind.
+#[tactic(auto, unfolding(crate::specs::Lines::zone_at))]
+fn zone(reader: &mut Reader, alloc: Global, end: End) -> Result<ZoneText, ReadError>
+    ensures { Takes (λ z. z) result reader.new.rest.now (zone_at end reader.old.rest.now) }
+{
+    match end {
+        End::Line => {
+            let zone = no_zone(alloc)?;
+            Ok(zone)
+        }
+        End::Space => named_zone(reader, alloc),
+    }
 }
 
 /// The spec of a job, which ends its line.
@@ -64,7 +102,8 @@ fn spec(reader: &mut Reader, alloc: Global) -> Result<JobSpec, ReadError>
     let param = reader.bounded(alloc, End::Space)?;
     let timeout = timeout(reader, End::Space)?;
     let retries = retries(reader, End::Space)?;
-    let children = children(reader, alloc)?;
+    let (end, children) = children(reader, alloc)?;
+    let zone = zone(reader, alloc, end)?;
     Ok(JobSpec {
         group,
         kind: schedule_kind(kind),
@@ -77,6 +116,7 @@ fn spec(reader: &mut Reader, alloc: Global) -> Result<JobSpec, ReadError>
         timeout,
         retries,
         children,
+        zone,
     })
 }
 

@@ -1,8 +1,8 @@
 //! The laws of lines.
-ghost use Rattle.job_values.specs.declared.cluster.ClusterEvent.{ClusterEvent};
-ghost use Rattle.script_text.specs.Laws.{NoLineBeginsAnother, EachEventHasOneLine};
+ghost use Rattle.job_events.specs.declared.cluster.ClusterEvent.{ClusterEvent};
+ghost use Rattle.script_text.specs.Laws.{NoLineBeginsAnother, EachEventHasOneLine, BoundsAre};
 
-use job_values::ClusterEvent;
+use job_events::ClusterEvent;
 use line_grammar::laws::law_no_text_begins_another;
 
 /// No line is a proper prefix of another, and no bytes are the line of two events.
@@ -15,4 +15,9 @@ pub fn law_no_line_begins_another()
 /// Each event has exactly one line.
 pub fn law_one_line()
     ensures { EachEventHasOneLine }
+{}
+
+/// The bounds that lines cite as numbers.
+pub fn law_numbers()
+    ensures { BoundsAre }
 {}

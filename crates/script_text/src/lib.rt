@@ -16,6 +16,3 @@ pub use faults::{LineError, LineFault};
 pub use reading::read_line;
 pub use replies::{write_reply, write_report};
 pub use writing::write_line;
-
-#[cfg(test)]
-mod tests;

@@ -6,7 +6,7 @@ ghost use Rattle.line_grammar.specs.Dashes.{number_form};
 ghost use Rattle.script_text.specs.Lines.{start_line, stop_line, ask_line, scan_line, step_line, turn_line};
 
 use crate::words::{admin, moment};
-use job_values::ClusterEvent;
+use job_events::ClusterEvent;
 use line_grammar::{End, ReadError, Reader};
 
 pub(crate) fn start(reader: &mut Reader) -> Result<ClusterEvent, ReadError>

@@ -1,6 +1,6 @@
 //! Lines, each told by its first word.
-ghost use Rattle.std.specs.Prelude.{◌≡◌, ◌+◌, ◌-◌, ◌≤◌, ◌<◌, length, IfOk, IfErr};
-ghost use Rattle.job_values.specs.declared.cluster.ClusterEvent.{ClusterEvent};
+ghost use Rattle.std.specs.Prelude.{◌≡◌, ◌+◌, ◌-◌, ◌^◌, ◌≤◌, min, IfOk, IfErr};
+ghost use Rattle.job_events.specs.declared.cluster.ClusterEvent.{ClusterEvent};
 ghost use Rattle.line_grammar.specs.Reading.{Takes};
 ghost use Rattle.line_grammar.specs.Grammar.{reading};
 ghost use Rattle.script_text.specs.Lines.{line, IsLine};
@@ -11,7 +11,7 @@ use crate::groups::{addgroup, setgroup};
 use crate::jobs::{addjob, dropjob, fire, setjob, showlog, startjob, stopjob};
 use crate::nodes::{ask, scan, start, step, stop, turn};
 use crate::words::first_word;
-use job_values::ClusterEvent;
+use job_events::ClusterEvent;
 use line_grammar::laws::law_grammar;
 use line_grammar::{ReadError, Reader};
 use std::alloc::Global;
@@ -40,20 +40,29 @@ fn any(reader: &mut Reader, alloc: Global) -> Result<ClusterEvent, ReadError>
     }
 }
 
+/// The column behind so many bytes. One above the greatest number of its type stays there.
+fn column_behind(bytes: usize) -> u32
+    ensures { result ≡ min (bytes + 1) (2 ^ 32 - 1) }
+{
+    if bytes < u32::MAX as usize {
+        bytes as u32 + 1
+    } else {
+        u32::MAX
+    }
+}
+
 /// The fault where so many bytes are left.
 fn fault(len: usize, left: usize) -> LineError
-    requires within { left ≤ len }
-    requires room { len < 4294967295 }
-    ensures { result ≡ LineError.Bad (record { column = len - left + 1 }) }
+    requires { left ≤ len }
+    ensures { result ≡ LineError.Bad (record { column = min (len - left + 1) (2 ^ 32 - 1) }) }
 {
     LineError::Bad(LineFault {
-        column: (len - left + 1) as u32,
+        column: column_behind(len - left),
     })
 }
 
-/// The event whose line the bytes are, its LF with them. The bytes are fewer than 2^32 - 1.
+/// The event whose line the bytes are, its LF with them. A column above 2^32 - 1 is told as that.
 pub fn read_line(alloc: Global, bytes: &[u8]) -> Result<ClusterEvent, LineError>
-    requires { length bytes.now < 4294967295 }
     // What is read is the event of the line.
     ensures line { IfOk result (λ event. IsLine event bytes.now) }
     // What is a line is read, unless memory runs out.

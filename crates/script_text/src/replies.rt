@@ -6,10 +6,8 @@ ghost use Rattle.line_grammar.specs.Writing.{spaced_number};
 ghost use Rattle.job_values.specs.Words.{case_text};
 
 use crate::writing::{put_number, put_text, put_word};
-use job_values::{
-    Case, ClusterRefusal, ClusterReply, FiredTicket, JobId, Moment, NoMemory, Opened, Report, Seq,
-    ShownLog,
-};
+use job_events::{ClusterRefusal, ClusterReply, FiredTicket, Opened, Report, ShownLog};
+use job_values::{Case, JobId, Moment, NoMemory, Seq};
 use line_grammar::{write_byte, write_optional, write_signed, write_word};
 use std::alloc::Global;
 
@@ -63,31 +61,25 @@ fn put_refusal(out: &mut Vec<u8>, refusal: ClusterRefusal) -> Result<(), NoMemor
 {
     match refusal {
         ClusterRefusal::NodeRunning(admin) => {
-            write_word(out, "NodeRunning")?;
-            put_number(out, u64::from(admin.get()))
+            put_count(out, "NodeRunning", u64::from(admin.get()))
         }
         ClusterRefusal::NodeStopped(admin) => {
-            write_word(out, "NodeStopped")?;
-            put_number(out, u64::from(admin.get()))
+            put_count(out, "NodeStopped", u64::from(admin.get()))
         }
-        ClusterRefusal::Busy(owner) => {
-            write_word(out, "Busy")?;
-            put_number(out, u64::from(owner.get()))
-        }
+        ClusterRefusal::Busy(owner) => put_count(out, "Busy", u64::from(owner.get())),
         ClusterRefusal::NotScanning => write_word(out, "NotScanning"),
         ClusterRefusal::NoGroup => write_word(out, "NoGroup"),
         ClusterRefusal::NoJob => write_word(out, "NoJob"),
         ClusterRefusal::NoLog => write_word(out, "NoLog"),
-        ClusterRefusal::BadSchedule(fault) => {
-            write_word(out, "BadSchedule")?;
-            put_number(out, u64::from(fault.field))?;
-            put_number(out, u64::from(fault.place))
-        }
+        ClusterRefusal::BadSchedule(fault) => put_counts(
+            out,
+            "BadSchedule",
+            u64::from(fault.field),
+            u64::from(fault.place),
+        ),
+        ClusterRefusal::BadZone(fault) => put_count(out, "BadZone", u64::from(fault.place)),
         ClusterRefusal::NoNext => write_word(out, "NoNext"),
-        ClusterRefusal::TooMany(limit) => {
-            write_word(out, "TooMany")?;
-            put_number(out, u64::from(limit))
-        }
+        ClusterRefusal::TooMany(limit) => put_count(out, "TooMany", u64::from(limit)),
         ClusterRefusal::IdsSpent => write_word(out, "IdsSpent"),
     }
 }
@@ -193,7 +185,14 @@ fn put_reply(out: &mut Vec<u8>, reply: &ClusterReply) -> Result<(), NoMemory>
         ClusterReply::Halted(edition) => put_count(out, "halted", *edition),
         ClusterReply::Begun(count) => put_count(out, "begun", *count),
         ClusterReply::Skip(job) => put_count(out, "skip", u64::from(job.get())),
-        ClusterReply::Look(job, case, due, next, put, opened) => {
+        ClusterReply::Look {
+            job,
+            case,
+            due,
+            next,
+            put,
+            opened,
+        } => {
             write_word(out, "look")?;
             put_look(out, *job, *case, *due, *next, *put)?;
             put_all_opened(out, opened.as_slice())
@@ -210,8 +209,8 @@ fn put_reply(out: &mut Vec<u8>, reply: &ClusterReply) -> Result<(), NoMemory>
             write_word(out, "log")?;
             put_shown(out, log)
         }
-        ClusterReply::Stopped(lost, ended) => put_counts(out, "stopped", *lost, *ended),
-        ClusterReply::Reopened(lost, ended) => put_counts(out, "reopened", *lost, *ended),
+        ClusterReply::Stopped { lost, ended } => put_counts(out, "stopped", *lost, *ended),
+        ClusterReply::Reopened { lost, ended } => put_counts(out, "reopened", *lost, *ended),
         ClusterReply::Refused(refusal) => {
             write_word(out, "no ")?;
             put_refusal(out, *refusal)

@@ -1,4 +1,5 @@
 //! The words of lines, read as the types that they stand for.
+ghost use Rattle.job_values.specs.declared.limits.TheConstants.{LAST_ADMIN, LAST_MOMENT, LAST_LOG_ID, LAST_JOB_ID, LAST_SECONDS, LAST_RETRIES};
 ghost use Rattle.std.specs.Prelude.{◌≡◌, [], ◌∷◌, codes};
 ghost use Rattle.line_grammar.specs.Reading.{Takes};
 ghost use Rattle.line_grammar.specs.Numbers.{number_at};
@@ -7,6 +8,9 @@ ghost use Rattle.line_grammar.specs.Dashes.{number_form};
 ghost use Rattle.script_text.specs.Words.{group_kind_at, schedule_kind_at, misfire_at, route_at, route_words, block_at};
 ghost use Rattle.script_text.specs.Lines.{other_words};
 
+use job_values::limits::{
+    LAST_ADMIN, LAST_JOB_ID, LAST_LOG_ID, LAST_MOMENT, LAST_RETRIES, LAST_SECONDS,
+};
 use job_values::{
     AdminNo, Block, GroupId, GroupKind, JobId, LogId, Misfire, Moment, Retries, Route,
     ScheduleKind, Timeout,
@@ -26,9 +30,9 @@ fn form(least: u64, greatest: u64, end: End) -> NumberForm
 
 /// A moment.
 pub(crate) fn moment(reader: &mut Reader, end: End) -> Result<Moment, ReadError>
-    ensures { Takes (λ t. t) result reader.new.rest.now (number_at (number_form 0 4102444799999 end) reader.old.rest.now) }
+    ensures { Takes (λ t. t) result reader.new.rest.now (number_at (number_form 0 LAST_MOMENT end) reader.old.rest.now) }
 {
-    let ms = reader.number(form(0, 4_102_444_799_999, end))?;
+    let ms = reader.number(form(0, LAST_MOMENT, end))?;
     match Moment::new(ms) {
         Some(at) => Ok(at),
         None => unreachable!(),
@@ -37,9 +41,9 @@ pub(crate) fn moment(reader: &mut Reader, end: End) -> Result<Moment, ReadError>
 
 /// The id of a group.
 pub(crate) fn group(reader: &mut Reader, end: End) -> Result<GroupId, ReadError>
-    ensures { Takes (λ t. t) result reader.new.rest.now (number_at (number_form 1 2147483647 end) reader.old.rest.now) }
+    ensures { Takes (λ t. t) result reader.new.rest.now (number_at (number_form 1 LAST_JOB_ID end) reader.old.rest.now) }
 {
-    let number = reader.number(form(1, 2_147_483_647, end))?;
+    let number = reader.number(form(1, u64::from(LAST_JOB_ID), end))?;
     match GroupId::new(number as u32) {
         Some(id) => Ok(id),
         None => unreachable!(),
@@ -48,9 +52,9 @@ pub(crate) fn group(reader: &mut Reader, end: End) -> Result<GroupId, ReadError>
 
 /// The id of a job.
 pub(crate) fn job(reader: &mut Reader, end: End) -> Result<JobId, ReadError>
-    ensures { Takes (λ t. t) result reader.new.rest.now (number_at (number_form 1 2147483647 end) reader.old.rest.now) }
+    ensures { Takes (λ t. t) result reader.new.rest.now (number_at (number_form 1 LAST_JOB_ID end) reader.old.rest.now) }
 {
-    let number = reader.number(form(1, 2_147_483_647, end))?;
+    let number = reader.number(form(1, u64::from(LAST_JOB_ID), end))?;
     match JobId::new(number as u32) {
         Some(id) => Ok(id),
         None => unreachable!(),
@@ -59,9 +63,9 @@ pub(crate) fn job(reader: &mut Reader, end: End) -> Result<JobId, ReadError>
 
 /// The seconds after which a run is stopped, or 0.
 pub(crate) fn timeout(reader: &mut Reader, end: End) -> Result<Timeout, ReadError>
-    ensures { Takes (λ t. t) result reader.new.rest.now (number_at (number_form 0 2147483647 end) reader.old.rest.now) }
+    ensures { Takes (λ t. t) result reader.new.rest.now (number_at (number_form 0 LAST_SECONDS end) reader.old.rest.now) }
 {
-    let number = reader.number(form(0, 2_147_483_647, end))?;
+    let number = reader.number(form(0, u64::from(LAST_SECONDS), end))?;
     match Timeout::new(number as u32) {
         Some(seconds) => Ok(seconds),
         None => unreachable!(),
@@ -70,9 +74,9 @@ pub(crate) fn timeout(reader: &mut Reader, end: End) -> Result<Timeout, ReadErro
 
 /// How often a failed run is tried again.
 pub(crate) fn retries(reader: &mut Reader, end: End) -> Result<Retries, ReadError>
-    ensures { Takes (λ t. t) result reader.new.rest.now (number_at (number_form 0 100 end) reader.old.rest.now) }
+    ensures { Takes (λ t. t) result reader.new.rest.now (number_at (number_form 0 LAST_RETRIES end) reader.old.rest.now) }
 {
-    let number = reader.number(form(0, 100, end))?;
+    let number = reader.number(form(0, u64::from(LAST_RETRIES), end))?;
     match Retries::new(number as u32) {
         Some(count) => Ok(count),
         None => unreachable!(),
@@ -81,9 +85,9 @@ pub(crate) fn retries(reader: &mut Reader, end: End) -> Result<Retries, ReadErro
 
 /// The number of an admin.
 pub(crate) fn admin(reader: &mut Reader, end: End) -> Result<AdminNo, ReadError>
-    ensures { Takes (λ t. t) result reader.new.rest.now (number_at (number_form 0 15 end) reader.old.rest.now) }
+    ensures { Takes (λ t. t) result reader.new.rest.now (number_at (number_form 0 LAST_ADMIN end) reader.old.rest.now) }
 {
-    let number = reader.number(form(0, 15, end))?;
+    let number = reader.number(form(0, u64::from(LAST_ADMIN), end))?;
     match AdminNo::new(number as u8) {
         Some(admin) => Ok(admin),
         None => unreachable!(),
@@ -92,9 +96,9 @@ pub(crate) fn admin(reader: &mut Reader, end: End) -> Result<AdminNo, ReadError>
 
 /// The id of a log.
 pub(crate) fn log(reader: &mut Reader, end: End) -> Result<LogId, ReadError>
-    ensures { Takes (λ t. t) result reader.new.rest.now (number_at (number_form 1 9223372036854775807 end) reader.old.rest.now) }
+    ensures { Takes (λ t. t) result reader.new.rest.now (number_at (number_form 1 LAST_LOG_ID end) reader.old.rest.now) }
 {
-    let number = reader.number(form(1, 9_223_372_036_854_775_807, end))?;
+    let number = reader.number(form(1, LAST_LOG_ID, end))?;
     match LogId::new(number) {
         Some(id) => Ok(id),
         None => unreachable!(),

@@ -1,4 +1,5 @@
 //! Events written as their lines.
+ghost use Rattle.job_values.specs.declared.limits.TheConstants.{LAST_JOB_ID, LONGEST_NAME, LONGEST_SCHEDULE_GIVEN};
 ghost use Rattle.std.specs.Prelude.{◌≡◌, ◌∷◌, ◌++◌, IfOk, OnOk, decimal};
 ghost use Rattle.std.specs.List.{AllByRecursion};
 ghost use Rattle.line_grammar.specs.Dashes.{number_form};
@@ -6,14 +7,15 @@ ghost use Rattle.line_grammar.specs.Laws.{IsNumberOf, IsTextOf};
 ghost use Rattle.line_grammar.specs.Writing.{spaced_number, spaced_text, counted_texts, counted_numbers};
 ghost use Rattle.line_grammar.specs.Texts.{text_form};
 ghost use Rattle.job_values.specs.Words.{group_kind_text};
-ghost use Rattle.job_values.specs.declared.cluster.ClusterEvent.TheVariants.{TriggerJob};
+ghost use Rattle.job_events.specs.declared.cluster.ClusterEvent.TheVariants.{TriggerJob};
 ghost use Rattle.script_text.specs.Lines.{IsLine};
-ghost use Rattle.script_text.specs.Spelling.{spelling, event_words, spec_text, trigger_text, work_text, IsBuilt, IsAdmin, IsMoment, IsId, IsWithin, SpecFits, WorkFits, AddressesFit};
+ghost use Rattle.script_text.specs.Spelling.{spelling, event_words, spec_text, trigger_text, work_text, zone_text, IsBuilt, IsAdmin, IsMoment, IsId, IsWithin, SpecFits, WorkFits, AddressesFit};
 
 use crate::laws::law_one_line;
+use job_events::ClusterEvent;
 use job_values::{
-    Addresses, AdminNo, BoundedText, ClusterEvent, GroupKind, JobId, JobSpec, Moment, NoMemory,
-    ParamText, Seq,
+    Addresses, AdminNo, BoundedText, GroupKind, JobId, JobSpec, Moment, NoMemory, ParamText, Seq,
+    ZoneText,
 };
 use line_grammar::{
     End, write_bounded, write_byte, write_number, write_optional, write_texts, write_word,
@@ -50,7 +52,7 @@ pub(crate) fn put_text<const LEAST: usize, const MOST: usize>(
 
 fn put_children(out: &mut Vec<u8>, children: &[JobId]) -> Result<(), NoMemory>
     ensures written { OnOk result (out.new.items ≡ out.old.items ++ counted_numbers children.now) }
-    ensures within { OnOk result (AllByRecursion (IsNumberOf (number_form 1 2147483647 End.Line)) children.now) }
+    ensures within { OnOk result (AllByRecursion (IsNumberOf (number_form 1 LAST_JOB_ID End.Line)) children.now) }
 {
     write_number(out, children.len() as u64)?;
     for child in children {
@@ -62,7 +64,7 @@ fn put_children(out: &mut Vec<u8>, children: &[JobId]) -> Result<(), NoMemory>
 /// When a job fires, and where it runs.
 fn put_trigger(out: &mut Vec<u8>, spec: &JobSpec) -> Result<(), NoMemory>
     ensures written { OnOk result (out.new.items ≡ out.old.items ++ trigger_text spec.now) }
-    ensures within { OnOk result (IsId spec.now.group × IsTextOf (text_form 0 1024 End.Line) spec.now.schedule) }
+    ensures within { OnOk result (IsId spec.now.group × IsTextOf (text_form 0 LONGEST_SCHEDULE_GIVEN End.Line) spec.now.schedule) }
 {
     write_number(out, u64::from(spec.group.get()))?;
     put_word(out, spec.kind.text())?;
@@ -85,12 +87,27 @@ fn put_work(out: &mut Vec<u8>, spec: &JobSpec) -> Result<(), NoMemory>
     put_children(out, spec.children.as_slice())
 }
 
+/// The zone that a spec names, behind its word.
+fn put_zone(out: &mut Vec<u8>, zone: &ZoneText) -> Result<(), NoMemory>
+    ensures written { OnOk result (out.new.items ≡ out.old.items ++ zone_text zone.now) }
+    ensures within { OnOk result (IsTextOf (text_form 0 LONGEST_NAME End.Line) zone.now) }
+{
+    match zone.get().as_bytes() {
+        [] => Ok(()),
+        [_, ..] => {
+            write_word(out, " zone ")?;
+            write_bounded(out, zone)
+        }
+    }
+}
+
 fn put_spec(out: &mut Vec<u8>, spec: &JobSpec) -> Result<(), NoMemory>
     ensures written { OnOk result (out.new.items ≡ out.old.items ++ spec_text spec.now) }
     ensures within { OnOk result (SpecFits spec.now) }
 {
     put_trigger(out, spec)?;
-    put_work(out, spec)
+    put_work(out, spec)?;
+    put_zone(out, &spec.zone)
 }
 
 /// A first word and an admin.

@@ -1,6 +1,6 @@
-//! The text of one item, and what is refused.
+//! The text of one item, written and read.
 
-use super::{SpoolFault, read_spool, write_spool};
+use super::{read_spool, write_spool};
 use job_values::{CallbackItem, LogId, LogMoment, ResultText, Seq, Text};
 use std::alloc::Global;
 use std::test::Fail;
@@ -16,15 +16,6 @@ fn item(alloc: Global) -> Result<CallbackItem, Fail> {
     })
 }
 
-/// The line of a fault, or 0 where the text is read.
-fn bad_line(alloc: Global, text: &str) -> Result<u64, Fail> {
-    match read_spool(alloc, text.as_bytes()) {
-        Ok(_) => Ok(0),
-        Err(SpoolFault::Bad { line }) => Ok(line),
-        Err(SpoolFault::NoMemory) => Err(Fail::from("no memory")),
-    }
-}
-
 #[test]
 fn one_item(rt: HostRuntime) -> Result<(), Fail> {
     let alloc = rt.alloc();
@@ -37,17 +28,5 @@ fn one_item(rt: HostRuntime) -> Result<(), Fail> {
     assert_eq!(rt; read.len(), 1);
     let again = write_spool(alloc, &read)?;
     assert_eq!(rt; again.as_slice(), text.as_bytes());
-    Ok(())
-}
-
-#[test]
-fn bad_lines(rt: HostRuntime) -> Result<(), Fail> {
-    let alloc = rt.alloc();
-    assert_eq!(rt; bad_line(alloc, "")?, 0);
-    assert_eq!(rt; bad_line(alloc, LINE)?, 1);
-    let twice = format!(in alloc; "{LINE}\n{LINE}\n")?;
-    assert_eq!(rt; bad_line(alloc, twice.as_str())?, 2);
-    let empty = format!(in alloc; "{LINE}\n\n")?;
-    assert_eq!(rt; bad_line(alloc, empty.as_str())?, 2);
     Ok(())
 }

@@ -1,7 +1,7 @@
 -- The ring as sixty lists of tickets.
 use Rattle.std.specs.Prelude.{ℕ, ◌+◌, ◌-◌, ◌/◌, ◌%◌, List, [], ◌∷◌, ◌++◌, length, sum_by, slice_index_or, slice_set, replicate}
 use Rattle.time_ring.specs.declared.ticket.Ticket.{Ticket}
-use Rattle.time_ring.specs.declared.limits.TheConstants.{SLOTS, SECOND}
+use Rattle.job_values.specs.declared.limits.TheConstants.{SLOTS, SECOND}
 
 -- the tickets of each slot, and for how many more tickets each slot has room
 pub record Ring : Type 0 where

@@ -1,7 +1,7 @@
 //! The ring of an admin node: sixty slots of waiting tickets, one for each second of a minute.
 #![tactic(auto)]
 
-pub mod limits;
+pub mod laws;
 pub mod ring;
 mod slot;
 mod slots;

@@ -2,12 +2,12 @@
 ghost use Rattle.std.specs.Prelude.{◌≡◌, ℕ, ◌-◌, ◌<◌, ◌≤◌, [], length, min, replicate, slice_set, IfOk, OnOk, OnErr};
 ghost use Rattle.time_ring.specs.Ring.{slot_of, slot_of_second, slot_before, tickets_in, room_in, with_ticket, after_turn, no_tickets, ticket_count};
 
-use super::limits::{SECOND, SLOTS};
 use super::slot::Slot;
 use super::slots::{
     clear_slots, count_tickets, empty_slots, put_slot, reserve_slot, slots_at, take_slots,
 };
 use super::ticket::{Taken, Ticket};
+use job_values::limits::{SECOND, SLOTS};
 use job_values::{Moment, NoMemory};
 use std::alloc::Global;
 use std::marker::Model;
@@ -21,7 +21,7 @@ pub struct TimeRing {
 
 impl Model for TimeRing {
     ghost use Rattle.std.specs.Prelude.{◌≡◌, vec_len};
-    ghost use Rattle.time_ring.specs.declared.limits.TheConstants.{SLOTS};
+    ghost use Rattle.job_values.specs.declared.limits.TheConstants.{SLOTS};
     ghost use Rattle.time_ring.specs.Ring.{Ring};
     ghost use Rattle.time_ring.specs.Slot.{lists_of, rooms_of};
 

@@ -34,7 +34,7 @@ impl Slot {
         ensures tickets { self.new.tickets ≡ self.old.tickets }
         ensures room { self.old.room ≤ self.new.room }
     {
-        self.tickets.reserve(count).map_err(|_| NoMemory)?;
+        self.tickets.reserve(count)?;
         Ok(())
     }
 

@@ -3,9 +3,9 @@ ghost use Rattle.std.specs.Prelude.{◌≡◌, ℕ, ◌-◌, ◌<◌, ◌≤◌,
 ghost use Rattle.time_ring.specs.Ring.{slot_of_second, slot_before, slot_of, tickets_in, room_in, with_ticket, after_turn, no_tickets, ticket_count};
 ghost use Rattle.time_ring.specs.Slot.{lists_of, rooms_of};
 
-use super::limits::{SECOND, SLOTS};
 use super::slot::Slot;
 use super::ticket::{Taken, Ticket};
+use job_values::limits::{SECOND, SLOTS};
 use job_values::{NoMemory, Seq};
 use std::alloc::Global;
 
@@ -27,7 +27,7 @@ pub(crate) fn empty_slots(alloc: Global, count: usize) -> Result<Vec<Slot>, NoMe
     ensures lists { IfOk result (λ slots. lists_of slots.items ≡ replicate count []) }
     ensures length { IfOk result (λ slots. vec_len slots ≡ count) }
 {
-    let mut slots = Vec::with_capacity(alloc, count).map_err(|_| NoMemory)?;
+    let mut slots = Vec::with_capacity(alloc, count)?;
     for _ in 0..count {
         slots.push_reserved(Slot::new(alloc));
     }

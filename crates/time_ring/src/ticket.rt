@@ -12,7 +12,7 @@ pub struct Ticket {
 }
 
 /// The tickets of the slot of a second, and of the slot of the second before.
-#[derive(Debug, Drop)]
+#[derive(Drop)]
 pub struct Taken {
     pub present: Seq<Ticket>,
     pub past: Seq<Ticket>,

@@ -4,8 +4,8 @@ use Rattle.job_values.specs.declared.words.PoolAnswer.{PoolAnswer}
 use Rattle.job_values.specs.declared.words.PoolAnswer.TheVariants.{Fast, Slow, Full}
 use Rattle.job_values.specs.declared.words.PoolKind.{PoolKind}
 use Rattle.job_values.specs.declared.words.PoolKind.TheVariants.{Fast as FastPool, Slow as SlowPool}
-use Rattle.trigger_pool.specs.Reports.{SlowCounts, no_counts}
-use Rattle.trigger_pool.specs.declared.limits.TheConstants.{FAST_LIMIT, SLOW_LIMIT, SLOW_ABOVE}
+use Rattle.trigger_pool.specs.Reports.{Sending, SlowCounts, no_counts, counts_with}
+use Rattle.job_values.specs.declared.limits.TheConstants.{FAST_LIMIT, SLOW_LIMIT, SLOW_ABOVE}
 
 -- the waiting logs of each pool, the next one first, and the slow counts
 pub record Queues : Type 0 where
@@ -49,3 +49,7 @@ with_log queues log Full = queues
 abbrev pub without_first : Queues → PoolKind → Queues
 without_first queues FastPool = record queues { fast = drop 1 queues.fast }
 without_first queues SlowPool = record queues { slow = drop 1 queues.slow }
+
+-- the pools after one more sending
+abbrev pub with_sending : Queues → Sending → Queues
+with_sending queues sending = record queues { counts = counts_with queues.counts sending }

@@ -2,7 +2,8 @@
 use Rattle.std.specs.Prelude.{◌≡◌, ℕ, ◌+◌, ◌-◌, ◌/◌, ◌^◌, Bool, true, ◌&&◌, ◌==◌, nat_lt, nat_eq, min, if◌then◌else◌, List, [], ◌∷◌, ◌++◌, length, ◌≤◌, Option, None, Some, unwrap_or, count_by}
 use Rattle.std.specs.List.{list_all}
 use Rattle.std.specs.Map.{lookup}
-use Rattle.trigger_pool.specs.declared.limits.TheConstants.{LATE_ABOVE, MINUTE}
+use Rattle.indexmap.specs.IndexMap.{insert_entry}
+use Rattle.job_values.specs.declared.limits.TheConstants.{LATE_ABOVE, MINUTE}
 
 -- one sending of a log: its job, and the moments at which it began and ended
 pub record Sending : Type 0 where
@@ -45,6 +46,26 @@ no_counts = record { minute = None; late = [] }
 abbrev pub late_count : SlowCounts → ℕ → ℕ
 late_count counts job = unwrap_or (lookup (nat_eq job) counts.late) 0
 
+-- the counts that a sending goes on with: those of its minute
+abbrev pub begun_late : Option ℕ → List (ℕ × ℕ) → ℕ → List (ℕ × ℕ)
+begun_late None late minute = []
+begun_late (Some kept) late minute = if kept == minute then late else []
+
+-- one more late sending of a job; a count stays at the greatest number of its type
+abbrev pub raised_late : List (ℕ × ℕ) → ℕ → List (ℕ × ℕ)
+raised_late late job = insert_entry nat_eq late job (min (unwrap_or (lookup (nat_eq job) late) 0 + 1) (2 ^ 64 - 1))
+
+-- the same if it was late
+abbrev pub raised_if : Bool → List (ℕ × ℕ) → ℕ → List (ℕ × ℕ)
+raised_if late counts job = if late then raised_late counts job else counts
+
+-- the kept counts after one more sending
+abbrev pub counts_with : SlowCounts → Sending → SlowCounts
+counts_with counts sending = record {
+  minute = Some (minute_of sending);
+  late = raised_if (is_late sending) (begun_late counts.minute counts.late (minute_of sending)) sending.job;
+}
+
 -- the minute in which the first of these ended
 abbrev pub first_minute : List Sending → Option ℕ
 first_minute [] = None
@@ -64,3 +85,9 @@ pub record IsLongestInOneMinute (sendings suffix : List Sending) : Type 0 where
 -- the last minute is that suffix
 abbrev pub LastMinuteIsLongest : Type 0
 LastMinuteIsLongest = (sendings : List Sending) → IsLongestInOneMinute sendings (last_minute sendings)
+
+-- the kept counts of some sendings become those of one more
+abbrev pub TallyIsKept : Type 0
+TallyIsKept =
+    (counts : SlowCounts) (sendings : List Sending) (sending : Sending) → IsTally counts sendings
+    → IsTally (counts_with counts sending) (sendings ++ sending ∷ [])

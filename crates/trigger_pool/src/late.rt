@@ -1,10 +1,10 @@
 //! How many sendings of each job were late in the minute of the last one.
-ghost use Rattle.std.specs.Prelude.{◌≡◌, ◌≢◌, ℕ, ◌+◌, ◌-◌, ◌^◌, ◌<◌, ◌≤◌, ◌↔◌, [], ◌∷◌, ◌++◌, List, Some, min, nat_eq, if◌then◌else◌, IsTrue, OnOk, OnErr, unwrap_or, Bool, true, false};
-ghost use Rattle.indexmap.specs.IndexMap.{get, spare, IsUnchanged, IsEmpty};
-ghost use Rattle.trigger_pool.specs.Reports.{Sending, no_counts, late_count, IsTally};
+ghost use Rattle.std.specs.Prelude.{◌≡◌, ◌+◌, ◌<◌, ◌≤◌, Some, OnOk};
+ghost use Rattle.indexmap.specs.IndexMap.{spare};
+ghost use Rattle.trigger_pool.specs.Reports.{no_counts, late_count, begun_late, raised_late, raised_if, counts_with};
 
-use super::limits::{LATE_ABOVE, MINUTE};
 use indexmap::IndexMap;
+use job_values::limits::{LATE_ABOVE, MINUTE};
 use job_values::{JobId, Moment, NoMemory};
 use std::alloc::Global;
 use std::marker::Model;
@@ -40,13 +40,13 @@ impl LateCounts {
         ensures same { self.new.kept ≡ self.old.kept }
         ensures room { self.old.room ≤ self.new.room }
     {
-        self.counts.reserve(1).map_err(|_| NoMemory)?;
+        self.counts.reserve(1)?;
         Ok(())
     }
 
     pub(crate) fn report(&mut self, job: JobId, start: Moment, end: Moment)
         requires { 0 < self.old.room }
-        ensures tally { (sendings : List Sending) → IsTally self.old.kept sendings → IsTally self.new.kept (sendings ++ record { job = job; start = start; end = end } ∷ []) }
+        ensures kept { self.new.kept ≡ counts_with self.old.kept (record { job = job; start = start; end = end }) }
         ensures room { self.old.room ≤ self.new.room + 1 }
     {
         let late = end.get() > start.get() + LATE_ABOVE;
@@ -64,8 +64,7 @@ impl LateCounts {
 // Makes this the kept minute; another minute has no count yet.
 fn begin_minute(kept: &mut Option<u64>, counts: &mut IndexMap<u32, u64>, minute: u64)
     ensures minute { kept.new ≡ Some minute }
-    ensures same { kept.old ≡ Some minute → counts.new.entries ≡ counts.old.entries }
-    ensures emptied { kept.old ≢ Some minute → counts.new.entries ≡ [] }
+    ensures counts { counts.new.entries ≡ begun_late kept.old counts.old.entries minute }
     ensures room { spare counts.old ≤ spare counts.new }
 {
     if *kept != Some(minute) {
@@ -74,11 +73,10 @@ fn begin_minute(kept: &mut Option<u64>, counts: &mut IndexMap<u32, u64>, minute:
     }
 }
 
-// Raises the count of a job by one; at the greatest number it stays.
+// Counts one more late sending of a job.
 fn raise(counts: &mut IndexMap<u32, u64>, job: u32)
     requires { 0 < spare counts.old }
-    ensures raised { get nat_eq counts.new job ≡ Some (min (unwrap_or (get nat_eq counts.old job) 0 + 1) (2 ^ 64 - 1)) }
-    ensures others { (other : ℕ) → other ≢ job → get nat_eq counts.new other ≡ get nat_eq counts.old other }
+    ensures raised { counts.new.entries ≡ raised_late counts.old.entries job }
     ensures room { spare counts.old ≤ spare counts.new + 1 }
 {
     let count = counts.get(&job).copied().unwrap_or(0);
@@ -87,9 +85,7 @@ fn raise(counts: &mut IndexMap<u32, u64>, job: u32)
 
 fn raise_if(late: bool, counts: &mut IndexMap<u32, u64>, job: u32)
     requires { 0 < spare counts.old }
-    ensures skipped { late ≡ false → counts.new.entries ≡ counts.old.entries }
-    ensures raised { late ≡ true → get nat_eq counts.new job ≡ Some (min (unwrap_or (get nat_eq counts.old job) 0 + 1) (2 ^ 64 - 1)) }
-    ensures others { (other : ℕ) → other ≢ job → get nat_eq counts.new other ≡ get nat_eq counts.old other }
+    ensures raised { counts.new.entries ≡ raised_if late counts.old.entries job }
     ensures room { spare counts.old ≤ spare counts.new + 1 }
 {
     if late {

@@ -1,10 +1,10 @@
 //! The fast and the slow pool.
 ghost use Rattle.std.specs.Prelude.{◌≡◌, ℕ, ◌+◌, ◌<◌, ◌≤◌, ◌↔◌, List, [], ◌∷◌, ◌++◌, length, slice_get, IsTrue, OnOk, OnErr};
-ghost use Rattle.trigger_pool.specs.Pool.{no_logs, queue_of, answer_at, with_log, without_first};
+ghost use Rattle.trigger_pool.specs.Pool.{no_logs, queue_of, answer_at, with_log, without_first, with_sending};
 ghost use Rattle.trigger_pool.specs.Reports.{Sending, IsTally, late_count, slow_count};
 
 use super::late::LateCounts;
-use super::limits::{FAST_LIMIT, SLOW_ABOVE, SLOW_LIMIT};
+use job_values::limits::{FAST_LIMIT, SLOW_ABOVE, SLOW_LIMIT};
 use job_values::{JobId, LogId, Moment, NoMemory, PoolAnswer, PoolKind};
 use std::alloc::Global;
 use std::collections::VecDeque;
@@ -57,8 +57,8 @@ impl Pools {
         ensures kept_logs { self.old.room.logs ≤ self.new.room.logs }
         ensures kept_jobs { self.old.room.jobs ≤ self.new.room.jobs }
     {
-        self.fast.reserve(count).map_err(|_| NoMemory)?;
-        self.slow.reserve(count).map_err(|_| NoMemory)?;
+        self.fast.reserve(count)?;
+        self.slow.reserve(count)?;
         self.late.reserve()
     }
 
@@ -87,9 +87,7 @@ impl Pools {
     /// Takes account of a sending for a job that began at `start` and ended at `end`.
     pub fn report(&mut self, job: JobId, start: Moment, end: Moment)
         requires { 0 < self.old.room.jobs }
-        ensures tally { (sendings : List Sending) → IsTally self.old.kept.counts sendings → IsTally self.new.kept.counts (sendings ++ record { job = job; start = start; end = end } ∷ []) }
-        ensures fast { self.new.kept.fast ≡ self.old.kept.fast }
-        ensures slow { self.new.kept.slow ≡ self.old.kept.slow }
+        ensures kept { self.new.kept ≡ with_sending self.old.kept (record { job = job; start = start; end = end }) }
         ensures logs { self.new.room.logs ≡ self.old.room.logs }
         ensures jobs { self.old.room.jobs ≤ self.new.room.jobs + 1 }
     {

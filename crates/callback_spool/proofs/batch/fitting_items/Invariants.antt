@@ -1,7 +1,7 @@
 use Rattle.std.proofs.Common.{◌≡◌, ◌+◌, ◌≤◌, drop}
 use Rattle.std.specs.VecDeque.{deque_len}
 use Rattle.callback_spool.specs.Batches.{fitting, batch_len}
-use Rattle.callback_spool.specs.declared.batch.TheConstants.{BATCH_BYTES}
+use Rattle.job_values.specs.declared.limits.TheConstants.{BATCH_BYTES}
 use Rattle.callback_spool.proofs.batch.fitting_items.Given as goal
 
 abbrev pub invariant-loop-count : goal.invariant-loop-count

@@ -1,6 +1,6 @@
 use Rattle.std.proofs.Common.{ap, sym, ◌∙◌, arith}
 use Rattle.trigger_pool.specs.Pool.{Queues, with_log}
-use Rattle.cluster_core.specs.Commits.{pools_with}
+use Rattle.cluster_plan.specs.Commits.{pools_with}
 use Rattle.cluster_core.proofs.EnteredLemmas.{entered-more}
 use Rattle.cluster_core.proofs.pools.enter.Goals as goal
 

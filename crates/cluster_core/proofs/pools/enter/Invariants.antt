@@ -1,5 +1,5 @@
 use Rattle.std.proofs.Common.{◌≡◌, ◌≤◌, ◌+◌, length, take}
-use Rattle.cluster_core.specs.Commits.{entered}
+use Rattle.cluster_plan.specs.Commits.{entered}
 use Rattle.cluster_core.proofs.pools.enter.Given as goal
 
 abbrev pub invariant-loop-log : goal.invariant-loop-log

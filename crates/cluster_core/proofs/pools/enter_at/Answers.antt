@@ -1,5 +1,5 @@
 use Rattle.std.proofs.Common.{arith}
-use Rattle.cluster_core.specs.Commits.{entered}
+use Rattle.cluster_plan.specs.Commits.{entered}
 use Rattle.cluster_core.proofs.KeptLemmas.{pools-changed}
 use Rattle.cluster_core.proofs.pools.enter_at.Goals as goal
 

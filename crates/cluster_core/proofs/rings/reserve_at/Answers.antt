@@ -1,5 +1,5 @@
 use Rattle.std.proofs.Common.{ℕ, List, OnOk, subst, sym, arith}
-use Rattle.cluster_core.specs.Commits.{HasRoomToPut}
+use Rattle.cluster_core.specs.Room.{HasRoomToPut}
 use Rattle.cluster_core.proofs.KeptLemmas.{rings-room, slots-kept}
 use Rattle.cluster_core.proofs.rings.reserve_at.Goals as goal
 

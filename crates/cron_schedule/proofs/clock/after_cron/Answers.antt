@@ -1,13 +1,13 @@
-use Rattle.cron_schedule.proofs.AfterLemmas.{none_due, start_late, first_due}
+use Rattle.std.proofs.Common.{◌∙◌}
+use Rattle.cron_schedule.specs.Due.{is_utc_due}
+use Rattle.cron_schedule.specs.Zones.{offset_by}
+use Rattle.cron_schedule.proofs.AfterLemmas.{none_whole, first_whole}
 use Rattle.cron_schedule.proofs.clock.after_cron.Goals as goal
 
 pub returns-in-None-clause-time : goal.returns-in-None-clause-time
-returns-in-None-clause-time g c = start_late c.args.cron.now c.args.offset c.args.t c.in-None.ensures.none
+returns-in-None-clause-time g c =
+    none_whole (is_utc_due c.args.cron.now (offset_by c.args.zone.now.standard c.args.zone.now.rules)) c.args.t (rw c.get.ensures.value at c.in-None.ensures.first)
 
-pub returns-in-None-first_second-clause-time : goal.returns-in-None-first_second-clause-time
-returns-in-None-first_second-clause-time g c =
-    none_due c.args.cron.now c.args.offset c.args.t c.in-Some.from c.in-Some.ensures.some.0 c.in-None-first_second.ensures.first
-
-pub returns-in-Some-first_second-clause-time : goal.returns-in-Some-first_second-clause-time
-returns-in-Some-first_second-clause-time g c =
-    first_due c.args.cron.now c.args.offset c.args.t c.in-Some.from c.in-Some-first_second.second c.moment_of.result c.in-Some.ensures.some.0 c.in-Some-first_second.ensures.first c.moment_of.ensures
+pub returns-in-Some-clause-time : goal.returns-in-Some-clause-time
+returns-in-Some-clause-time g c =
+    c.moment_of.ensures ∙ first_whole (is_utc_due c.args.cron.now (offset_by c.args.zone.now.standard c.args.zone.now.rules)) c.args.t c.in-Some.second (rw c.get.ensures.value at c.in-Some.ensures.first)

@@ -1,13 +1,9 @@
 use Rattle.std.proofs.Common.{◌≡◌, ◌<◌, inl, inr, length, refl, arith}
 use Rattle.std.proofs.lemmas.Bool.{ltb-true, lt-ltb}
-use Rattle.job_records.specs.declared.limits.TheConstants.{MOST_OF_KEY}
+use Rattle.job_values.specs.declared.limits.TheConstants.{MOST_OF_KEY}
 use Rattle.job_records.specs.Rules.{count_of_key}
-use Rattle.job_records.proofs.OrderLemmas.{split-by_key}
 use Rattle.job_records.proofs.AllowLemmas.{found-registered, absent-place}
 use Rattle.job_records.proofs.keys.has_key_place.Goals as goal
-
-pub key_seat_of-requires : goal.key_seat_of-requires
-key_seat_of-requires c = split-by_key c.as_str.result.now c.as_str-2.result.now c.args.rows.now c.requires
 
 pub returns-in-Ok : goal.returns-in-Ok
 returns-in-Ok c =

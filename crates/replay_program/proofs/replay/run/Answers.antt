@@ -1,52 +1,28 @@
-use Rattle.std.proofs.Common.{refl}
-use Rattle.replay_program.specs.declared.stream.Replay.{Replay}
-use Rattle.replay_program.proofs.Running.{at_first, run_done, run_bad, run_large, ended_front, front_nothing}
+use Rattle.std.proofs.Common.{refl, inr}
+use Rattle.replay_program.specs.Script.{script}
+use Rattle.line_program.proofs.Running.{front_nothing}
 use Rattle.replay_program.proofs.replay.run.Goals as goal
 
+pub returns-in-Ok-clause-ends : goal.returns-in-Ok-clause-ends
+returns-in-Ok-clause-ends g c = c.run_lines.ensures.ends c.args.settings c.in-Ok.ensures
+
+pub returns-in-Ok-clause-taken : goal.returns-in-Ok-clause-taken
+returns-in-Ok-clause-taken g c = λ events input is taken. c.run_lines.ensures.taken c.args.settings events input c.in-Ok.ensures is taken
+
+pub returns-in-Ok-clause-bad : goal.returns-in-Ok-clause-bad
+returns-in-Ok-clause-bad g c = λ events input column is at. c.run_lines.ensures.bad c.args.settings events input column c.in-Ok.ensures is at
+
+pub returns-in-Ok-clause-large : goal.returns-in-Ok-clause-large
+returns-in-Ok-clause-large g c = λ events input is at. c.run_lines.ensures.large c.args.settings events input c.in-Ok.ensures is at
+
 pub returns-in-Err-clause-ends : goal.returns-in-Err-clause-ends
-returns-in-Err-clause-ends g c = λ input is. front_nothing c.args.settings _ input
+returns-in-Err-clause-ends g c = λ input is. front_nothing (script c.args.settings) _ input
 
-pub returns-in-Ok-play-clause-ends : goal.returns-in-Ok-play-clause-ends
-returns-in-Ok-play-clause-ends g c =
-    let old : Replay = record { machine = c.in-Ok.machine; out = c.new-2.result; lines = 0; size = 0 } in
-    let at = at_first c.args.settings (g.O.Sink.taken c.args.sink.now) old c.in-Ok.ensures c.new-2.ensures.items refl refl in
-    rw c.status_of.ensures
-    (run_done c.args.settings _ _ _ _ _ _ _ _ _ _ old _ c.end_with_report.result c.in-Ok-play.ensures.ok at c.in-Ok-play.ensures.wrote c.end_with_report.ensures.ok c.end_with_report.ensures.err)
+pub returns-in-Err-clause-taken : goal.returns-in-Err-clause-taken
+returns-in-Err-clause-taken g c = λ events input is taken. inr (inr (inr refl))
 
-pub returns-in-Err-Bad-clause-ends : goal.returns-in-Err-Bad-clause-ends
-returns-in-Err-Bad-clause-ends g c =
-    let old : Replay = record { machine = c.in-Ok.machine; out = c.new-2.result; lines = 0; size = 0 } in
-    let at = at_first c.args.settings (g.O.Sink.taken c.args.sink.now) old c.in-Ok.ensures c.new-2.ensures.items refl refl in
-    rw c.status_of-in-Err-Bad.ensures
-    (run_bad c.args.settings _ _ _ _ _ _ _ _ _ _ old _ _ c.end_with_bad.result (rw c.in-Err-Bad.field-0-is at c.in-Err-Bad.ensures.err) at c.in-Err-Bad.ensures.wrote (rw c.in-Err-Bad.column-is at c.end_with_bad.ensures.ok) (rw c.in-Err-Bad.column-is at c.end_with_bad.ensures.err))
+pub returns-in-Err-clause-bad : goal.returns-in-Err-clause-bad
+returns-in-Err-clause-bad g c = λ events input column is at. inr (inr (inr refl))
 
-pub returns-in-Err-TooLarge-clause-ends : goal.returns-in-Err-TooLarge-clause-ends
-returns-in-Err-TooLarge-clause-ends g c =
-    let old : Replay = record { machine = c.in-Ok.machine; out = c.new-2.result; lines = 0; size = 0 } in
-    let at = at_first c.args.settings (g.O.Sink.taken c.args.sink.now) old c.in-Ok.ensures c.new-2.ensures.items refl refl in
-    rw c.status_of-in-Err-TooLarge.ensures
-    (run_large c.args.settings _ _ _ _ _ _ _ _ _ _ old _ c.end_with_large.result (rw c.in-Err-TooLarge.field-0-is at c.in-Err-TooLarge.ensures.err) at c.in-Err-TooLarge.ensures.wrote c.end_with_large.ensures.ok c.end_with_large.ensures.err)
-
-pub returns-in-Err-Source-clause-ends : goal.returns-in-Err-Source-clause-ends
-returns-in-Err-Source-clause-ends g c =
-    let old : Replay = record { machine = c.in-Ok.machine; out = c.new-2.result; lines = 0; size = 0 } in
-    let at = at_first c.args.settings (g.O.Sink.taken c.args.sink.now) old c.in-Ok.ensures c.new-2.ensures.items refl refl in (
-      rw c.in-Err-Source.field-0-is at c.in-Err-Source.ensures.cause,
-      λ input is.
-          (rw c.in-Err-Source.field-0-is at c.in-Err-Source.ensures.err) input is _ at,
-    )
-
-pub returns-in-Err-Sink-clause-ends : goal.returns-in-Err-Sink-clause-ends
-returns-in-Err-Sink-clause-ends g c =
-    let old : Replay = record { machine = c.in-Ok.machine; out = c.new-2.result; lines = 0; size = 0 } in
-    let at = at_first c.args.settings (g.O.Sink.taken c.args.sink.now) old c.in-Ok.ensures c.new-2.ensures.items refl refl in (
-      rw c.in-Err-Sink.field-0-is at c.in-Err-Sink.ensures.cause,
-      λ input is.
-          ended_front _ _ input ((rw c.in-Err-Sink.field-0-is at c.in-Err-Sink.ensures.err) input is _ at),
-    )
-
-pub returns-clause-ends : goal.returns-clause-ends
-returns-clause-ends g c =
-    let old : Replay = record { machine = c.in-Ok.machine; out = c.new-2.result; lines = 0; size = 0 } in
-    let at = at_first c.args.settings (g.O.Sink.taken c.args.sink.now) old c.in-Ok.ensures c.new-2.ensures.items refl refl in
-    λ input is. (rw c.in-Err-Memory.field-0-is at c.in-Err-Memory.ensures.err) input is _ at
+pub returns-in-Err-clause-large : goal.returns-in-Err-clause-large
+returns-in-Err-clause-large g c = λ events input is at. inr (inr (inr refl))

@@ -1,5 +1,5 @@
 use Rattle.std.proofs.lemmas.Result.{err_from_is_err_and}
-use Rattle.job_values.specs.declared.cluster.ClusterEvent.TheVariants.{AddJob}
+use Rattle.job_events.specs.declared.cluster.ClusterEvent.TheVariants.{AddJob}
 use Rattle.line_grammar.specs.Grammar.{Gives}
 use Rattle.script_text.proofs.SpecReading.{spec_gives, spec_fails}
 use Rattle.script_text.proofs.jobs.addjob.Goals as goal

@@ -1,7 +1,8 @@
 use Rattle.std.proofs.Common.{refl, sym, subst}
 use Rattle.cluster_core.specs.contracts.cluster.Cluster.{the_view}
-use Rattle.cluster_core.specs.declared.prepared.NodeChange.TheVariants as node
-use Rattle.cluster_core.specs.Kept.{kept_of, IsSound}
+use Rattle.cluster_plan.specs.declared.prepared.NodeChange.TheVariants as node
+use Rattle.cluster_core.specs.Kept.{kept_of}
+use Rattle.cluster_plan.specs.Kept.{IsSound}
 use Rattle.cluster_core.proofs.KeptLemmas.{kept-by}
 use Rattle.cluster_core.proofs.SoundLemmas.{sound-changed}
 use Rattle.cluster_core.proofs.cluster.Cluster.change_node.Goals as goal

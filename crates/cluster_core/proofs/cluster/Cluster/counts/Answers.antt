@@ -3,12 +3,16 @@ use Rattle.std.specs.Prelude.{count_by}
 use Rattle.trigger_pool.specs.Pool.{PoolState}
 use Rattle.cluster_core.specs.contracts.cluster.Cluster.{the_view}
 use Rattle.cluster_core.specs.Kept.{ClusterState, kept_of}
-use Rattle.cluster_core.specs.Stands.{Stands, StandsFor, records_of}
+use Rattle.cluster_plan.specs.Stands.{Stands}
+use Rattle.cluster_history.specs.Records.{records_of}
+use Rattle.cluster_core.specs.Stands.{StandsFor}
 use Rattle.std.proofs.lemmas.List.{length-map}
+use Rattle.job_values.specs.declared.limits.TheConstants.{ADMINS}
 use Rattle.job_records.specs.Tables.{Tables}
 use Rattle.cluster_history.specs.History.{accepted}
 use Rattle.cluster_history.specs.Jobs.{jobs_of}
-use Rattle.cluster_history.specs.Logs.{logs_of, is_settled, is_failed}
+use Rattle.cluster_history.specs.Logs.{logs_of}
+use Rattle.cluster_history.specs.Settling.{is_settled, is_failed}
 use Rattle.cluster_history.specs.Runs.{waiting_in, queued_in}
 use Rattle.cluster_history.specs.Replies.{counted_to}
 use Rattle.cluster_core.proofs.CountLemmas.{waiting-counted, queued-counted, queued-few, counted-by}
@@ -17,17 +21,17 @@ use Rattle.cluster_core.proofs.cluster.Cluster.counts.Goals as goal
 pub count_queued-requires : goal.count_queued-requires
 count_queued-requires c =
     let few = queued-few c.self.inside.pools.items c.self.invariant.limits in
-    let sixteen : length c.self.inside.pools.items ≡ 16 = sym (length-map c.self.inside.pools.items (λ (p : PoolState). p.kept)) ∙ c.self.invariant.pools in
+    let many : length c.self.inside.pools.items ≡ ADMINS = sym (length-map c.self.inside.pools.items (λ (p : PoolState). p.kept)) ∙ c.self.invariant.pools in
     omega arith
 
 pub returns : goal.returns
 returns c = λ h s.
     let stands : Stands (kept_of (the_view c.self.inside)) (accepted h) = let P = λ (k : ClusterState). StandsFor k h in subst P (sym c.self.view_is) s in
-    let rows : c.self.inside.records.kept ≡ records_of (accepted h) = stands.tables in
+    let rows : c.self.inside.records.kept ≡ records_of (accepted h) = stands.keeps.tables in
     let jobs : c.jobs.result.now ≡ jobs_of (accepted h) = c.jobs.ensures ∙ ap (λ (t : Tables). t.jobs) rows in
     let logs : c.logs-logs.result.now ≡ logs_of (accepted h) = c.logs-logs.ensures ∙ ap (λ (t : Tables). t.logs) rows in
-    let waiting : c.count_waiting.result ≡ counted_to (waiting_in (accepted h)) = c.count_waiting.ensures ∙ ap (λ n. min n (2 ^ 64 - 1)) (waiting-counted c.self.inside.rings.items (accepted h) stands.rings) in
-    let queued : c.count_queued.result ≡ queued_in (accepted h) = c.count_queued.ensures ∙ queued-counted c.self.inside.pools.items (accepted h) stands.pools in
+    let waiting : c.count_waiting.result ≡ counted_to (waiting_in (accepted h)) = c.count_waiting.ensures ∙ ap (λ n. min n (2 ^ 64 - 1)) (waiting-counted c.self.inside.rings.items (accepted h) stands.keeps.rings) in
+    let queued : c.count_queued.result ≡ queued_in (accepted h) = c.count_queued.ensures ∙ queued-counted c.self.inside.pools.items (accepted h) stands.keeps.pools in
     let settled : c.count_settled.result ≡ count_by is_settled (logs_of (accepted h)) = c.count_settled.ensures ∙ ap (count_by is_settled) logs in
     let failed : c.count_failed.result ≡ count_by is_failed (logs_of (accepted h)) = c.count_failed.ensures ∙ ap (count_by is_failed) logs in
     counted-by (accepted h) _ _ _ _ _ _ (ap length jobs) (ap length logs) settled failed waiting queued

@@ -1,7 +1,7 @@
 use Rattle.std.proofs.Common.{sym, subst}
 use Rattle.cluster_history.specs.History.{accepted}
-use Rattle.cluster_core.specs.Kept.{Kept}
-use Rattle.cluster_core.specs.Stands.{Stands}
+use Rattle.cluster_plan.specs.Kept.{Kept}
+use Rattle.cluster_plan.specs.Stands.{Stands}
 use Rattle.cluster_core.proofs.cluster.Cluster.step.Goals as goal
 
 pub returns-clause-answers : goal.returns-clause-answers

@@ -1,8 +1,9 @@
 use Rattle.std.proofs.Common.{ap, sym, ◌∙◌, subst}
 use Rattle.cluster_core.specs.contracts.cluster.Cluster.{the_view}
-use Rattle.cluster_core.specs.declared.prepared.NodeChange.TheVariants as node
-use Rattle.cluster_core.specs.Kept.{ClusterState, kept_of, IsSound}
-use Rattle.cluster_core.specs.Commits.{node_changed}
+use Rattle.cluster_plan.specs.declared.prepared.NodeChange.TheVariants as node
+use Rattle.cluster_core.specs.Kept.{ClusterState, kept_of}
+use Rattle.cluster_plan.specs.Kept.{IsSound}
+use Rattle.cluster_plan.specs.Commits.{node_changed}
 use Rattle.cluster_core.proofs.KeptLemmas.{kept-stopped}
 use Rattle.cluster_core.proofs.SoundLemmas.{sound-changed}
 use Rattle.cluster_core.proofs.cluster.Cluster.stop_at.Goals as goal

@@ -1,4 +1,4 @@
-use Rattle.job_records.proofs.RowLemmas.{rises-from_rising}
+use Rattle.rising_rows.proofs.RowLemmas.{rises-from_rising}
 use Rattle.job_records.proofs.AllowLemmas.{both, group_allowed}
 use Rattle.job_records.proofs.records.Records.allows_group.Goals as goal
 

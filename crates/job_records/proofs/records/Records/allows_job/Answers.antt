@@ -1,6 +1,6 @@
 use Rattle.std.proofs.Common.{◌≡◌, true, false, sym, ◌∙◌}
 use Rattle.std.proofs.lemmas.Result.{IfOk-weaker}
-use Rattle.job_records.proofs.RowLemmas.{rises-from_rising}
+use Rattle.rising_rows.proofs.RowLemmas.{rises-from_rising}
 use Rattle.job_records.proofs.AllowLemmas.{both, job_allowed}
 use Rattle.job_records.proofs.records.Records.allows_job.Goals as goal
 

@@ -1,4 +1,4 @@
-use Rattle.job_records.proofs.RowLemmas.{rises-from_rising}
+use Rattle.rising_rows.proofs.RowLemmas.{rises-from_rising}
 use Rattle.job_records.proofs.AllowLemmas.{both, last_allowed}
 use Rattle.job_records.proofs.records.Records.allows_last.Goals as goal
 

@@ -1,6 +1,6 @@
 use Rattle.std.proofs.Common.{◌≡◌, ◌∙◌, ◌+◌, drop, sym, arith}
 use Rattle.std.proofs.lemmas.List.{drop-drop}
-use Rattle.job_records.proofs.RunLemmas.{applied_all-rest, allowed-rest, room-rest}
+use Rattle.job_records.proofs.DropLemmas.{applied_all-rest, allowed-rest, room-rest}
 use Rattle.job_records.proofs.records.Records.apply.Goals as goal
 
 pub loop-at-preserved : goal.loop-at-preserved

@@ -1,5 +1,5 @@
-use Rattle.job_records.proofs.RowLemmas.{rises-from_rising}
+use Rattle.rising_rows.proofs.RowLemmas.{rises-from_rising}
 use Rattle.job_records.proofs.records.Records.job.Goals as goal
 
-pub row_at-requires : goal.row_at-requires
-row_at-requires c = rw c.as_slice.ensures.value (rises-from_rising _ 0 _ _ c.self.invariant.jobs.rising)
+pub row_of-requires : goal.row_of-requires
+row_of-requires c = rw c.as_slice.ensures.value (rises-from_rising _ 0 _ _ c.self.invariant.jobs.rising)

@@ -1,7 +1,0 @@
-use Rattle.std.proofs.Common.{◌≡◌, ◌++◌, take, map}
-use Rattle.std.specs.List.{concat}
-use Rattle.cluster_core.specs.Endings.{endings}
-use Rattle.cluster_core.proofs.endings.end_all.Given as goal
-
-abbrev pub invariant-loop-pool : goal.invariant-loop-pool
-invariant-loop-pool l = l.changes.items ≡ l.initial.changes.items ++ endings l.records.kept.logs (concat (map (λ pool. pool.kept.fast) (take l.pool-index l.pool-items)))

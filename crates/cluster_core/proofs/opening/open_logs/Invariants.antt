@@ -1,6 +1,0 @@
-use Rattle.cluster_core.proofs.OpeningLemmas.{OpensUp}
-use Rattle.cluster_core.proofs.opening.open_logs.Given as goal
-
-abbrev pub invariant-loop-index : goal.invariant-loop-index
-invariant-loop-index l =
-    OpensUp l.row l.param l.kind l.time l.total l.index l.initial.openings l.openings l.opened.items

@@ -1,0 +1,11 @@
+//! What a plan of an event is: what a cluster keeps, lent to be read, and what is prepared for an
+//! event, its reply and all that it changes. The plans themselves stand in crates above.
+#![tactic(auto)]
+
+pub mod prepared;
+pub mod seen;
+pub mod zones;
+
+pub use prepared::{Entering, NodeChange, Prepared};
+pub use seen::Seen;
+pub use zones::{zone_of, zone_said};

@@ -1,0 +1,182 @@
+//! The worked rows: events, and the texts of their replies.
+use super::executor_lines::{Line, event, text, told};
+use executor_core::Executor;
+use job_values::{CallbackItem, HandlerName, Seq};
+use std::alloc::Global;
+use std::process::Abort;
+use std::test::Fail;
+
+/// An executor with the one handler `demo`, after these lines, each of which gave this reply.
+fn played(rt: &impl Abort, alloc: Global, lines: &[(Line, &str)]) -> Result<Executor, Fail> {
+    let mut handlers: Seq<HandlerName> = Seq::new(alloc);
+    handlers.push(text(rt, alloc, "demo")?)?;
+    let kept: Seq<CallbackItem> = Seq::new(alloc);
+    let mut executor = Executor::new(alloc, handlers, kept)?;
+    go_on(rt, alloc, &mut executor, lines)?;
+    Ok(executor)
+}
+
+/// Plays these lines, each of which gives this reply.
+fn go_on(
+    rt: &impl Abort,
+    alloc: Global,
+    executor: &mut Executor,
+    lines: &[(Line, &str)],
+) -> Result<(), Fail> {
+    for (line, reply) in lines {
+        let event = event(rt, alloc, line)?;
+        let got = told(alloc, &executor.step(&event)?)?;
+        assert_eq!(rt; got.as_str(), *reply);
+    }
+    Ok(())
+}
+
+/// A copy of a run is refused until its result was taken.
+#[test]
+fn cover_with_a_copy(rt: HostRuntime) -> Result<(), Fail> {
+    let alloc = rt.alloc();
+    let mut executor = played(
+        &rt,
+        alloc,
+        &[
+            (Line::Run(1, "COVER_EARLY", 100_002), "queued 0"),
+            (Line::Run(1, "COVER_EARLY", 100_002), "no Held 1"),
+            (Line::Poll(0, 100_004), "run 1"),
+            (Line::Run(1, "COVER_EARLY", 100_002), "no Held 1"),
+            (Line::Finish(0, 100_006), "item 1 200"),
+            (Line::Take, "batch 1:200"),
+            (Line::Ack, "ok"),
+        ],
+    )?;
+    assert_eq!(rt; executor.held(), 0);
+    go_on(
+        &rt,
+        alloc,
+        &mut executor,
+        &[
+            (Line::Run(1, "COVER_EARLY", 100_002), "queued 0"),
+            (Line::Poll(0, 100_009), "run 1"),
+            (Line::Finish(0, 100_010), "item 1 200"),
+            (Line::Take, "batch 1:200"),
+            (Line::Take, "no BatchOut"),
+        ],
+    )?;
+    assert_eq!(rt; executor.held(), 1);
+    Ok(())
+}
+
+/// A run that lasts too long is given its result and leaves its job free.
+#[test]
+fn discard_with_a_timeout(rt: HostRuntime) -> Result<(), Fail> {
+    let _executor = played(
+        &rt,
+        rt.alloc(),
+        &[
+            (Line::Limited(1, "DISCARD_LATER", 100_000), "queued 0"),
+            (Line::Poll(3, 100_000), "run 1"),
+            (Line::Limited(2, "DISCARD_LATER", 100_100), "no Discarded"),
+            (Line::Idle, "no Running"),
+            (Line::Expire(104_999), "expired 0"),
+            (Line::Expire(105_000), "expired 1"),
+            (Line::Limited(2, "DISCARD_LATER", 100_100), "queued 0"),
+            (Line::Poll(3, 105_002), "no RunnerBusy 1"),
+            (Line::Poll(4, 105_002), "run 2"),
+            (Line::Finish(3, 106_000), "none 1"),
+        ],
+    )?;
+    Ok(())
+}
+
+/// Runs of one job, one behind the other; a kill ends them all.
+#[test]
+fn serial_runs_are_killed(rt: HostRuntime) -> Result<(), Fail> {
+    let _executor = played(
+        &rt,
+        rt.alloc(),
+        &[
+            (Line::Beat, "ok"),
+            (Line::Finish(0, 100_000), "no NotRunning"),
+            (Line::Run(1, "SERIAL_EXECUTION", 100_000), "queued 0"),
+            (Line::Run(2, "SERIAL_EXECUTION", 100_000), "queued 0"),
+            (Line::Poll(0, 100_000), "run 1"),
+            (Line::Poll(1, 100_000), "no Nothing"),
+            (Line::Kill, "killed 1"),
+            (Line::Finish(0, 100_000), "item 1 500"),
+            (Line::Take, "batch 2:500 1:500"),
+        ],
+    )?;
+    Ok(())
+}
+
+/// A later run ends those that wait and the one that runs.
+#[test]
+fn cover_ends_earlier_runs(rt: HostRuntime) -> Result<(), Fail> {
+    let _waiting = played(
+        &rt,
+        rt.alloc(),
+        &[
+            (Line::Run(1, "COVER_EARLY", 100_000), "queued 0"),
+            (Line::Run(2, "COVER_EARLY", 100_000), "queued 1"),
+        ],
+    )?;
+    let _running = played(
+        &rt,
+        rt.alloc(),
+        &[
+            (Line::Run(1, "SERIAL_EXECUTION", 100_000), "queued 0"),
+            (Line::Run(2, "SERIAL_EXECUTION", 100_000), "queued 0"),
+            (Line::Poll(0, 100_000), "run 1"),
+            (Line::Run(3, "COVER_EARLY", 100_000), "queued 1"),
+            (Line::Kill, "killed 1"),
+            (Line::Finish(0, 100_001), "item 1 500"),
+            (Line::Kept, "kept 2:500 3:500 1:500"),
+            (Line::Read(9), "no NoLines"),
+            (Line::Read(1), "lines 0"),
+        ],
+    )?;
+    Ok(())
+}
+
+/// A glue type that is not BEAN, and a handler that is not there.
+#[test]
+fn runs_that_nothing_can_run(rt: HostRuntime) -> Result<(), Fail> {
+    let _executor = played(
+        &rt,
+        rt.alloc(),
+        &[
+            (Line::Glued(1, "GLUE_GROOVY"), "no NotBean"),
+            (Line::Handled(1, "none"), "no NoHandler"),
+        ],
+    )?;
+    Ok(())
+}
+
+/// A failed batch goes before the items that wait, or, saved, behind the spooled ones.
+#[test]
+fn failed_batches_keep_their_order(rt: HostRuntime) -> Result<(), Fail> {
+    let _executor = played(
+        &rt,
+        rt.alloc(),
+        &[
+            (Line::Fail(false), "no NoBatch"),
+            (Line::Run(1, "SERIAL_EXECUTION", 100_000), "queued 0"),
+            (Line::Run(2, "SERIAL_EXECUTION", 100_000), "queued 0"),
+            (Line::Kill, "killed 2"),
+            (Line::Take, "batch 1:500 2:500"),
+            (Line::Run(3, "SERIAL_EXECUTION", 100_000), "queued 0"),
+            (Line::Kill, "killed 1"),
+            (Line::Fail(false), "ok"),
+            (Line::Take, "batch 1:500 2:500 3:500"),
+            (Line::Fail(true), "ok"),
+            (Line::Take, "no Nothing"),
+            (Line::Run(4, "SERIAL_EXECUTION", 100_000), "queued 0"),
+            (Line::Kill, "killed 1"),
+            (Line::Take, "batch 4:500"),
+            (Line::Fail(true), "ok"),
+            (Line::Kept, "kept 1:500 2:500 3:500 4:500"),
+            (Line::Reload, "reloaded 4"),
+            (Line::Take, "batch 1:500 2:500 3:500 4:500"),
+        ],
+    )?;
+    Ok(())
+}

@@ -1,0 +1,135 @@
+//! The streams, links and dialers, each on a short text.
+use outside::{
+    BytesDialer, BytesLink, BytesSink, BytesSource, Dialer, Failed, Link, MemoryDialer, MemoryLink,
+    MemorySink, MemorySource, Sink, Source, StreamSink, StreamSource, TcpDialer, TcpLink, send,
+    write_whole,
+};
+use std::collections::VecDeque;
+use std::net::TcpListener;
+use std::test::Fail;
+
+#[test]
+fn memory_source_gives_pieces_and_fails_where_told(rt: HostRuntime) -> Result<(), Fail> {
+    let failing = vec![in rt.alloc(); 2u64]?;
+    let mut source = MemorySource::new(rt.alloc(), b"abcde")
+        .in_pieces(3)
+        .failing(failing);
+    let mut into = [0u8; 8];
+    assert_eq!(rt; source.read(&mut into), Ok(3));
+    assert_eq!(rt; into, *b"abc\0\0\0\0\0");
+    assert_eq!(rt; source.read(&mut into), Err(Failed));
+    assert_eq!(rt; source.faults(), 1);
+    assert_eq!(rt; source.read(&mut into), Ok(2));
+    assert_eq!(rt; into, *b"dec\0\0\0\0\0");
+    assert_eq!(rt; source.read(&mut into), Ok(0));
+    Ok(())
+}
+
+#[test]
+fn memory_sink_takes_pieces_and_fails_where_told(rt: HostRuntime) -> Result<(), Fail> {
+    let failing = vec![in rt.alloc(); 3u64]?;
+    let mut sink = MemorySink::new(rt.alloc()).in_pieces(2).failing(failing);
+    assert_eq!(rt; write_whole(&mut sink, b"abcd"), Ok(()));
+    assert_eq!(rt; write_whole(&mut sink, b"ef"), Err(Failed));
+    assert_eq!(rt; write_whole(&mut sink, b"gh"), Ok(()));
+    assert_eq!(rt; sink.taken(), b"abcdgh".as_slice());
+    assert_eq!(rt; sink.faults(), 1);
+    let mut full = MemorySink::new(rt.alloc()).in_pieces(0);
+    assert_eq!(rt; full.write(b"a"), Ok(0));
+    assert_eq!(rt; full.faults(), 1);
+    assert_eq!(rt; write_whole(&mut full, b"a"), Err(Failed));
+    Ok(())
+}
+
+#[test]
+fn plain_streams_give_and_take_all(rt: HostRuntime) -> Result<(), Fail> {
+    let mut into = [0u8; 2];
+    let mut source = BytesSource::new(b"abc");
+    assert_eq!(rt; source.read(&mut into), Ok(2));
+    assert_eq!(rt; into, *b"ab");
+    let mut stream = StreamSource::new(b"abc".as_slice());
+    assert_eq!(rt; stream.read(&mut into), Ok(2));
+    assert_eq!(rt; stream.read(&mut into), Ok(1));
+    assert_eq!(rt; into, *b"cb");
+    let mut sink = BytesSink::new(rt.alloc());
+    assert_eq!(rt; sink.write(b"abc"), Ok(3));
+    assert_eq!(rt; sink.taken(), b"abc".as_slice());
+    let mut writer = StreamSink::new(Vec::new(rt.alloc()));
+    assert_eq!(rt; writer.write(b"abc"), Ok(3));
+    Ok(())
+}
+
+#[test]
+fn memory_link_carries_pieces_and_fails_where_told(rt: HostRuntime) -> Result<(), Fail> {
+    let bytes = Vec::from_slice(rt.alloc(), b"abc")?;
+    let failing = vec![in rt.alloc(); 2u64]?;
+    let mut link = MemoryLink::new(rt.alloc(), bytes)
+        .in_pieces(2)
+        .failing(failing);
+    let mut into = [0u8; 4];
+    assert_eq!(rt; link.read(&mut into), Ok(2));
+    assert_eq!(rt; link.read(&mut into), Err(Failed));
+    assert_eq!(rt; send(&mut link, b"xyz"), Ok(()));
+    assert_eq!(rt; link.taken(), b"xyz".as_slice());
+    assert_eq!(rt; link.faults(), 1);
+    let mut full = link.with_room(0);
+    assert_eq!(rt; send(&mut full, b"x"), Err(Failed));
+    Ok(())
+}
+
+#[test]
+fn memory_dialer_gives_and_refuses_in_order(rt: HostRuntime) -> Result<(), Fail> {
+    let mut script = VecDeque::new(rt.alloc());
+    script.push_back(None)?;
+    script.push_back(Some(MemoryLink::new(rt.alloc(), Vec::new(rt.alloc()))))?;
+    let mut dialer = MemoryDialer::new(rt.alloc(), script).another()?;
+    assert!(rt; dialer.dial("e1", 1).is_err());
+    assert!(rt; dialer.dial("e2", 65535).is_ok());
+    assert!(rt; dialer.dial("e3", 2).is_err());
+    assert_eq!(rt; dialer.faults(), 2);
+    if let Some([first, second, third]) = dialer.dials() {
+        assert!(rt; first.failed && !second.failed && third.failed);
+        assert_eq!(rt; second.host.as_str(), "e2");
+        assert_eq!(rt; second.port, 65535);
+        return Ok(());
+    }
+    Err(Fail::from("no three dials"))
+}
+
+#[test]
+fn dial_shows_what_its_link_told(rt: HostRuntime) -> Result<(), Fail> {
+    let answer = Vec::from_slice(rt.alloc(), b"ok")?;
+    let mut dialer = BytesDialer::new(rt.alloc(), answer).another()?;
+    let mut link: BytesLink = dialer.dial("e1", 1)?;
+    let mut into = [0u8; 4];
+    assert_eq!(rt; send(&mut link, b"x"), Ok(()));
+    assert_eq!(rt; link.read(&mut into), Ok(2));
+    assert_eq!(rt; link.read(&mut into), Ok(0));
+    dialer.hang_up(link);
+    if let Some([dial]) = dialer.dials() {
+        if let Some(shown) = &dial.shown {
+            assert_eq!(rt; shown.written.as_slice(), b"x".as_slice());
+            assert_eq!(rt; shown.read.as_slice(), b"ok".as_slice());
+            assert!(rt; shown.met && !shown.faulted);
+            return Ok(());
+        }
+    }
+    Err(Fail::from("no dial that shows a link"))
+}
+
+#[test]
+fn tcp_link_carries_bytes(rt: HostRuntime) -> Result<(), Fail> {
+    let listener = TcpListener::bind(&rt, "127.0.0.1:0")?;
+    let port = listener.local_addr()?.port();
+    let mut dialer = TcpDialer::new(&rt).another()?;
+    let mut link = dialer.dial("127.0.0.1", port)?;
+    let (stream, _) = listener.accept()?;
+    let mut peer = TcpLink::of(stream)?;
+    let mut into = [0u8; 4];
+    assert_eq!(rt; send(&mut link, b"abc"), Ok(()));
+    assert_eq!(rt; peer.read(&mut into), Ok(3));
+    assert_eq!(rt; into, *b"abc\0");
+    dialer.hang_up(link);
+    assert_eq!(rt; peer.read(&mut into), Ok(0));
+    Ok(())
+}

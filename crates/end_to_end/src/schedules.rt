@@ -1,0 +1,138 @@
+//! Calls of a schedule that no worked row reaches: whether a moment and a day match, counted steps, and
+//! copies.
+ghost use Rattle.std.specs.Prelude.{◌≡◌, ◌<◌};
+
+use cron_schedule::{ParseFault, Schedule};
+use job_values::{Moment, Offset, ScheduleKind, Steps, Text};
+use std::alloc::Global;
+use std::marker::Brand;
+use std::process::Abort;
+use std::sync::ledger::{Blank, Ledger};
+use zone_texts::Zone;
+
+fn read(alloc: Global, kind: ScheduleKind, text: &str) -> Result<Schedule, ParseFault> {
+    Schedule::parse(alloc, kind, &Text::copied(alloc, text)?)
+}
+
+/// The zone of a clock that is so far ahead of UTC.
+fn clock(rt: &impl Abort, seconds: i32) -> Zone {
+    Zone {
+        standard: Offset::new(seconds).expect(rt, "an offset"),
+        rules: None,
+    }
+}
+
+fn number(moment: Option<Moment>) -> u64 {
+    match moment {
+        Some(moment) => moment.get(),
+        None => 0,
+    }
+}
+
+#[test]
+fn copies_are_the_same(rt: HostRuntime) -> Result<(), ParseFault> {
+    let zone = clock(&rt, 0);
+    let start = Moment::new(100_000).expect(&rt, "a moment");
+    let last = Moment::new(4_102_444_799_000).expect(&rt, "a moment");
+    let rate = read(rt.alloc(), ScheduleKind::FixRate, "0000000010")?.copy(rt.alloc())?;
+    assert_eq!(rt; number(rate.after(start, &zone)), 110_000);
+    assert_eq!(rt; number(rate.after(last, &zone)), 0);
+    let never = read(rt.alloc(), ScheduleKind::Never, "any text")?;
+    assert_eq!(rt; number(never.after(start, &zone)), 0);
+    assert!(rt; rate.is_same(&read(rt.alloc(), ScheduleKind::FixRate, "10")?));
+    assert!(rt; !rate.is_same(&never));
+    Ok(())
+}
+
+/// The weekday text of the table above, at its first time and beside it, and the days around.
+#[test]
+fn matches_and_days(rt: HostRuntime) -> Result<(), ParseFault> {
+    let schedule = read(rt.alloc(), ScheduleKind::Cron, "0 30 8 ? * MON-FRI")?;
+    let zone = clock(&rt, 28_800);
+    for (moment, due) in [
+        (1_717_374_600_000, true),
+        (1_717_374_600_500, false),
+        (1_717_374_601_000, false),
+        (1_717_201_800_000, false),
+    ] {
+        let moment = Moment::new(moment).expect(&rt, "a moment");
+        assert_eq!(rt; schedule.matches(moment, &zone), due);
+    }
+    let start = Moment::new(1_717_200_000_000).expect(&rt, "a moment");
+    // 2024-06-01 was a Saturday, and 2024-06-03 the Monday after.
+    for (day, due) in [
+        (19_875, false),
+        (19_876, false),
+        (19_877, true),
+        (-1, false),
+        (47_482, false),
+    ] {
+        let (next, found) = counted::<Brand>(&schedule, start, &zone, day, Blank::new(1));
+        assert_eq!(rt; next, 1_717_374_600_000);
+        assert_eq!(rt; found, due, "at {day}");
+    }
+    Ok(())
+}
+
+fn counted<L: Ledger>(
+    schedule: &Schedule,
+    t: Moment,
+    zone: &Zone,
+    day: i32,
+    blank: Blank,
+) -> (u64, bool)
+    requires name { blank.name ≡ L.name }
+    requires parts { blank.parts ≡ L.parts }
+    requires some { 0 < L.parts }
+{
+    let mut steps = Steps::<L>::none(blank);
+    let due = schedule.test_day(day, &mut steps);
+    (number(schedule.after_counted(t, zone, &mut steps)), due)
+}
+
+/// A zone's text, a cron text, a moment, and the times after it (0 for none): a gap, a fold, both halves of
+/// a southern year, and the last Sunday of a month.
+#[test]
+fn times_in_zones(rt: HostRuntime) -> Result<(), ParseFault> {
+    let new_york = "EST5EDT,M3.2.0,M11.1.0";
+    let sydney = "AEST-10AEDT,M10.1.0,M4.1.0/3";
+    let paris = "CET-1CEST,M3.5.0,M10.5.0/3";
+    for (zone, text, start, first, second) in [
+        (
+            new_york,
+            "0 30 2 * * ?",
+            1_709_942_400_000,
+            1_709_969_400_000,
+            1_710_138_600_000,
+        ),
+        (
+            new_york,
+            "0 30 1 * * ?",
+            1_730_592_000_000,
+            1_730_611_800_000,
+            1_730_615_400_000,
+        ),
+        (sydney, "0 0 0 15 1 ? 2024", 0, 1_705_237_200_000, 0),
+        (sydney, "0 0 0 15 7 ? 2024", 0, 1_720_965_600_000, 0),
+        (
+            paris,
+            "0 30 2 * * ?",
+            1_729_987_200_000,
+            1_729_989_000_000,
+            1_729_992_600_000,
+        ),
+    ] {
+        let offset = Offset::new(0).expect(&rt, "an offset");
+        let zone = Zone::parse(&Text::copied(rt.alloc(), zone)?, offset).expect(&rt, "a zone");
+        let schedule = read(rt.alloc(), ScheduleKind::Cron, text)?;
+        let start = Moment::new(start).expect(&rt, "a moment");
+        let next = schedule.after(start, &zone).expect(&rt, "a due time");
+        assert_eq!(rt; next.get(), first, "first at {text}");
+        assert_eq!(rt;
+            number(schedule.after(next, &zone)),
+            second,
+            "second at {text}"
+        );
+    }
+    Ok(())
+}

@@ -1,0 +1,5 @@
+pub mod Gaining
+pub mod Asks
+pub mod Callbacks
+pub mod Tending
+pub mod Runs

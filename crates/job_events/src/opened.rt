@@ -1,0 +1,19 @@
+//! The logs that firings open.
+
+use job_values::{Edition, JobId, LogId, Moment, PoolAnswer, Seq};
+
+/// A log that a firing opened, and the pool that it was put in.
+#[derive(Clone, Copy, Debug, PartialEq, Eq)]
+pub struct Opened {
+    pub log: LogId,
+    pub pool: PoolAnswer,
+}
+
+/// A ticket that a turn took, and the logs that it opened.
+#[derive(Drop)]
+pub struct FiredTicket {
+    pub job: JobId,
+    pub edition: Edition,
+    pub due: Moment,
+    pub opened: Seq<Opened>,
+}

@@ -1,0 +1,3 @@
+pub mod EditLemmas
+pub mod GroupLemmas
+pub mod JobLemmas

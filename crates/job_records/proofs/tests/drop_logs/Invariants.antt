@@ -1,6 +1,0 @@
-use Rattle.std.proofs.Common.{◌≡◌, map, take}
-use Rattle.job_records.specs.declared.change.Change.TheVariants.{DropLog}
-use Rattle.job_records.proofs.tests.drop_logs.Given as goal
-
-abbrev pub invariant-loop-id : goal.invariant-loop-id
-invariant-loop-id g l = l.drops.items ≡ map DropLog (take l.id-index l.ids)

@@ -1,0 +1,9 @@
+pub mod CutLemmas
+pub mod LimitLemmas
+pub mod ScriptLemmas
+pub mod ProgressLemmas
+pub mod Feeding
+pub mod Stopping
+pub mod Closing
+pub mod Running
+pub mod OneEnd

@@ -1,0 +1,4 @@
+pub mod NodeLemmas
+pub mod ShownLemmas
+pub mod EndingLemmas
+pub mod StopLemmas

@@ -1,0 +1,41 @@
+-- The start and the stop of admins.
+use Rattle.std.proofs.Common.{◌≡◌, ℕ, ◌<◌, [], true, false, refl, ap, ◌∙◌}
+use Rattle.job_events.specs.declared.cluster.ClusterEvent.TheVariants.{NodeStart, NodeAsk}
+use Rattle.job_events.specs.declared.cluster.ClusterReply.TheVariants.{Done}
+use Rattle.cluster_history.specs.History.{History, After, accepted}
+use Rattle.cluster_history.specs.Nodes.{runs}
+use Rattle.cluster_history.specs.Replies.{start_reply}
+use Rattle.cluster_plan.specs.declared.prepared.NodeChange.TheVariants as node
+use Rattle.cluster_plan.specs.Kept.{Kept}
+use Rattle.cluster_plan.specs.Plans.{IsPlanned}
+use Rattle.cluster_plan.specs.Stands.{Stands, Keeps}
+use Rattle.cluster_plan.proofs.AdminLemmas.{set-admin}
+use Rattle.cluster_plan.proofs.PlanLemmas.{planned, planned-answered, answered-running}
+use Rattle.std.specs.Prelude.{slice_set}
+use Rattle.job_values.specs.declared.limits.TheConstants.{ADMINS}
+
+-- an admin runs from its start on
+pub stands-started : (kept : Kept) (h : History) (admin : ℕ) → admin < ADMINS → Stands kept h → Keeps (record kept { running = slice_set kept.running admin true }) (After h (NodeStart admin) Done)
+stands-started kept h admin below s = record {
+  settings = s.keeps.settings;
+  running = ap (λ xs. slice_set xs admin true) s.keeps.running ∙ set-admin (runs h) admin true below;
+  tables = s.keeps.tables;
+  scan = s.keeps.scan;
+  rings = s.keeps.rings;
+  pools = s.keeps.pools;
+}
+
+-- the start of an admin that does not run
+pub planned-start : (kept : Kept) (admin : ℕ) → admin < ADMINS → ((h : History) → Stands kept (accepted h) → runs (accepted h) admin ≡ false)
+    → IsPlanned kept (NodeStart admin) (record { reply = Done; changes = []; node = node.Starts admin })
+planned-start kept admin below stopped =
+    planned kept (NodeStart admin) (record { reply = Done; changes = []; node = node.Starts admin }) tt refl below refl
+    (λ h s. ap (λ b. start_reply b admin) (stopped h s))
+    (λ h s. stands-started kept h admin below s)
+
+-- an admin that runs says so
+pub planned-ask : (kept : Kept) (admin : ℕ) → ((h : History) → Stands kept (accepted h) → runs (accepted h) admin ≡ true)
+    → IsPlanned kept (NodeAsk admin) (record { reply = Done; changes = []; node = node.Nothing })
+planned-ask kept admin running =
+    planned-answered kept (NodeAsk admin) Done tt refl (λ h s. answered-running (runs (accepted h) admin) admin Done (running h s))
+    (λ h s. record { settings = s.keeps.settings; running = s.keeps.running; tables = s.keeps.tables; scan = s.keeps.scan; rings = s.keeps.rings; pools = s.keeps.pools })

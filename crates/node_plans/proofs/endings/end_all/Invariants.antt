@@ -1,0 +1,8 @@
+use Rattle.std.proofs.Common.{◌≡◌, ◌++◌, take, map}
+use Rattle.std.specs.List.{concat}
+use Rattle.node_plans.specs.Endings.{endings}
+use Rattle.cluster_plan.specs.Kept.{logs_in}
+use Rattle.node_plans.proofs.endings.end_all.Given as goal
+
+abbrev pub invariant-loop-pool : goal.invariant-loop-pool
+invariant-loop-pool l = l.changes.items ≡ l.initial.changes.items ++ endings l.records.kept.logs (concat (map (λ pool. logs_in pool.kept) (take l.pool-index l.pool-items)))

@@ -1,0 +1,10 @@
+//! The plans of admins: their start, their stop, the stop of all, and what is asked: whether one runs,
+//! and what is known of a log.
+#![tactic(auto)]
+
+mod endings;
+pub mod nodes;
+pub mod shown;
+
+pub use nodes::{plan_ask, plan_reopen, plan_start, plan_stop};
+pub use shown::plan_read_log;

@@ -1,0 +1,74 @@
+//! The start and the stop of admins.
+ghost use Rattle.std.specs.Prelude.{IfOk};
+ghost use Rattle.job_events.specs.declared.cluster.ClusterEvent.TheVariants.{NodeStart, NodeStop, NodeAsk, Reopen};
+ghost use Rattle.cluster_plan.specs.Kept.{IsSound, kept_in};
+ghost use Rattle.cluster_plan.specs.Plans.{IsPlanned};
+
+use super::endings::{count_logs, end_all, end_pools, lost_tickets, queued_logs};
+use cluster_plan::{NodeChange, Prepared, Seen};
+use job_events::{ClusterRefusal, ClusterReply};
+use job_values::{AdminNo, NoMemory, Seq};
+
+/// An admin starts.
+pub fn plan_start(seen: &Seen<'_>, admin: AdminNo) -> Prepared
+    requires { IsSound (kept_in seen.now) }
+    ensures { IsPlanned (kept_in seen.now) (NodeStart admin) result }
+{
+    if seen.is_running(admin) {
+        return Prepared::refusal(seen.alloc, ClusterRefusal::NodeRunning(admin));
+    }
+    Prepared::changing(
+        ClusterReply::Done,
+        Seq::new(seen.alloc),
+        NodeChange::Starts(admin),
+    )
+}
+
+/// An admin stops: its logs that were not sent end, and its ring and its scan are lost.
+pub fn plan_stop(seen: &Seen<'_>, admin: AdminNo) -> Result<Prepared, NoMemory>
+    requires { IsSound (kept_in seen.now) }
+    ensures { IfOk result (IsPlanned (kept_in seen.now) (NodeStop admin)) }
+{
+    if !seen.is_running(admin) {
+        let why = ClusterRefusal::NodeStopped(admin);
+        return Ok(Prepared::refusal(seen.alloc, why));
+    }
+    let place = admin.get() as usize;
+    let lost = seen.rings[place].count();
+    let pools = &seen.pools[place];
+    let ended = count_logs(pools);
+    let mut changes = Vec::new(seen.alloc);
+    end_pools(seen.alloc, seen.records, pools, &mut changes)?;
+    Ok(Prepared::changing(
+        ClusterReply::Stopped { lost, ended },
+        Seq::of(changes),
+        NodeChange::Stops(admin),
+    ))
+}
+
+/// Whether an admin runs.
+pub fn plan_ask(seen: &Seen<'_>, admin: AdminNo) -> Prepared
+    requires { IsSound (kept_in seen.now) }
+    ensures { IsPlanned (kept_in seen.now) (NodeAsk admin) result }
+{
+    if !seen.is_running(admin) {
+        return Prepared::refusal(seen.alloc, ClusterRefusal::NodeStopped(admin));
+    }
+    Prepared::answer(seen.alloc, ClusterReply::Done)
+}
+
+/// Every admin stops.
+pub fn plan_reopen(seen: &Seen<'_>) -> Result<Prepared, NoMemory>
+    requires { IsSound (kept_in seen.now) }
+    ensures { IfOk result (IsPlanned (kept_in seen.now) Reopen) }
+{
+    let lost = lost_tickets(seen.running, seen.rings);
+    let ended = queued_logs(seen.running, seen.pools);
+    let mut changes = Vec::new(seen.alloc);
+    end_all(seen.alloc, seen.records, seen.pools, &mut changes)?;
+    Ok(Prepared::changing(
+        ClusterReply::Reopened { lost, ended },
+        Seq::of(changes),
+        NodeChange::StopsAll,
+    ))
+}

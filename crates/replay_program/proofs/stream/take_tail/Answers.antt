@@ -1,6 +1,0 @@
-use Rattle.std.proofs.Common.{length, ap, sym}
-use Rattle.replay_program.proofs.CutLemmas.{content_open}
-use Rattle.replay_program.proofs.stream.take_tail.Goals as goal
-
-pub take_line-requires-clause-bytes : goal.take_line-requires-clause-bytes
-take_line-requires-clause-bytes c = ap length (sym (content_open c.args.pending.now c.requires))

@@ -1,0 +1,4 @@
+pub mod RowLemmas
+pub mod SeatLemmas
+pub mod PutLemmas
+pub mod PlaceLemmas

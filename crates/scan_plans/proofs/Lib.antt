@@ -1,0 +1,4 @@
+pub mod HandLemmas
+pub mod TurnLemmas
+pub mod ScanLemmas
+pub mod StepLemmas

@@ -1,0 +1,7 @@
+use Rattle.scan_plans.proofs.TurnLemmas.{fires-one}
+use Rattle.scan_plans.proofs.turns.fire_ticket.Goals as goal
+
+pub returns : goal.returns
+returns c =
+    let told = rw c.in-Some.is at c.in_ok-opened.ensures in
+    fires-one _ _ _ _ _ _ told.0 told.1 c.in_ok-push_row.ensures.ok

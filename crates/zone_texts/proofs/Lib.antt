@@ -1,0 +1,10 @@
+pub mod Rows
+pub mod Steps
+pub mod GrammarLaws
+pub mod Apart
+pub mod Clear
+pub mod Parts
+pub mod ZoneLaws
+pub mod Lengths
+pub mod GrammarParts
+pub mod NameLaws

@@ -1,14 +1,16 @@
 -- The test of a day agrees with the library's dates.
-use Rattle.std.proofs.Common.{◌≡◌, ℕ, zero, suc, ◌+◌, ◌-◌, ◌%◌, ◌<◌, ◌≤◌, nat_lt, Bool, true, false, ◌&&◌, refl, sym, ap, ◌∙◌, arith, ℤ, pos, ◌+ℤ◌, List}
+use Rattle.std.proofs.Common.{◌≡◌, ℕ, zero, suc, ◌+◌, ◌-◌, ◌%◌, ◌<◌, ◌≤◌, nat_lt, Bool, true, false, ◌&&◌, refl, sym, ap, ◌∙◌, arith, ℤ, pos, ◌+ℤ◌, inl, inr, List}
+use Rattle.std.proofs.lemmas.Bool.{cases_lt}
 use Rattle.std.proofs.lemmas.Bool.Decides.{nat_tests}
 use Rattle.jiff_core.specs.declared.civil.date.Date.{Date}
-use Rattle.jiff_core.specs.Calendar.{days_in_month}
+use Rattle.jiff_core.specs.Calendar.{days_in_month, days_from_civil}
 use Rattle.jiff_core.specs.Date.{epoch_day}
 use Rattle.jiff_core.proofs.SignedLemmas.{signed_arith}
-use Rattle.jiff_core.proofs.CalendarLemmas.{weekday_number-parts}
+use Rattle.jiff_core.proofs.CalendarLemmas.{weekday_number-parts, days_in_month_bounds}
+use Rattle.jiff_core.proofs.DateLemmas.{days_from_civil-day, days_from_civil-next_month}
 use Rattle.cron_schedule.specs.declared.item.FieldItem.{FieldItem}
 use Rattle.cron_schedule.specs.Calendar.{CivilDay, next_day, civil_day, weekday_on}
-use Rattle.cron_schedule.specs.Days.{year_in_field, date_in_fields}
+use Rattle.cron_schedule.specs.Days.{year_in_field, day_in_field, weekday_in_field, date_in_fields}
 use Rattle.cron_schedule.specs.Sets.{in_field}
 use Rattle.cron_schedule.specs.First.{NonePasses}
 use Rattle.cron_schedule.specs.Due.{is_day_due}
@@ -26,6 +28,23 @@ weekday_on-number date n e = rw e (omega (arith, signed_arith, weekday_number-pa
 
 pub number_is : (z : ℤ) (n : ℕ) → z +ℤ pos 4_371_587 ≡ pos (n + 4_371_587) → z ≡ pos n
 number_is z n e = omega (arith, signed_arith)
+
+day_moved : (y : ℤ) (m d e n k : ℕ) → 1 ≤ d → 1 ≤ e → days_from_civil y m d ≡ pos n → k + d ≡ n + e → days_from_civil y m e ≡ pos k
+day_moved y m d e n k low least h same = omega (arith, signed_arith, days_from_civil-day y m d e low least)
+
+-- the day number of another date of a month
+pub same_month_day : (a b : Date) (n k : ℕ) → epoch_day a ≡ pos n → b.year ≡ a.year → b.month ≡ a.month → k + a.day ≡ n + b.day → epoch_day b ≡ pos k
+same_month_day a b n k h year month days =
+    rw (year, month) (day_moved a.year a.month a.day b.day n k a.day_in.0 b.day_in.0 h days)
+
+-- and of the first of the next one
+pub next_month_day : (a b : Date) (n k : ℕ) → epoch_day a ≡ pos n → b.year ≡ a.year → b.month ≡ a.month + 1 → b.day ≡ 1 → k + a.day ≡ n + days_in_month a.year a.month + 1 → epoch_day b ≡ pos k
+next_month_day a b n k h year month day days =
+    let long = days_in_month_bounds a.year a.month in
+    let low = a.day_in in
+    let last = days_from_civil-day a.year a.month a.day (days_in_month a.year a.month) low.0 (omega arith) in
+    let next = days_from_civil-next_month a.year a.month (days_in_month a.year a.month) a.month_in.0 refl in
+    rw (year, month, day) (omega (arith, signed_arith, last, next, h))
 
 -- of four tests the first two passed, so the last two decide
 pub after_month : (a c d : Bool) → a ≡ true → (c && d) ≡ (a && c && d)
@@ -80,6 +99,27 @@ same_month n (suc k) le = later_step n k (same_month n k (omega arith)) le
 
 month_out : (items : List FieldItem) (n k : ℕ) → IsLater n k → (year_in_field items (pos (civil_day n).year) && in_field 5 items (civil_day n).month) ≡ false → is_day_due items (n + k) ≡ false
 month_out items n k h out = rw (h.year, h.month) (sym (no_month _ _ _ out))
+
+third_false : (a b c d : Bool) → c ≡ false → (a && b && c && d) ≡ false
+third_false true true c d e = rw e
+third_false true false c d e = refl
+third_false false b c d e = refl
+
+date_out : (items : List FieldItem) (n k : ℕ) → IsLater n k → day_in_field items (pos (civil_day n).year) (civil_day n).month ((civil_day n).day + k) ≡ false → is_day_due items (n + k) ≡ false
+date_out items n k h out = rw (h.year, h.month, h.day) (third_false (year_in_field items (pos (civil_day n).year)) (in_field 5 items (civil_day n).month) (day_in_field items (pos (civil_day n).year) (civil_day n).month ((civil_day n).day + k)) (weekday_in_field items (pos (civil_day n).year) (civil_day n).month ((civil_day n).day + k)) out)
+
+-- nor a day after one that is not due, up to a day of its month with none between in the set of days
+pub none_to_date : (items : List FieldItem) (date : Date) (n next high : ℕ) → epoch_day date ≡ pos n → is_day_due items n ≡ false → ((d : ℕ) → date.day < d → d < next → day_in_field items date.year date.month d ≡ false) → high + date.day ≤ n + 1 + days_in_month date.year date.month → high + date.day ≤ n + next → NonePasses (is_day_due items) n high
+none_to_date items date n next high e gone out within most v least below =
+    elim (cases_lt n v) [
+      | inr le ↦ let same : v ≡ n = omega arith in ap (is_day_due items) same ∙ gone
+      | inl later ↦
+          let same = IsDateOf-number date n e in
+          let at : n + (v - n) ≡ v = omega arith in
+          let there : day_in_field items date.year date.month (date.day + (v - n)) ≡ false = out (date.day + (v - n)) (omega arith) (omega arith) in
+          let room : (civil_day n).day + (v - n) ≤ days_in_month (pos (civil_day n).year) (civil_day n).month = rw (← same.year, ← same.month, ← same.day) (omega arith) in
+          rw at at (date_out items n (v - n) (same_month n (v - n) room) (rw (same.year, same.month, same.day) at there))
+    ]
 
 -- no day from one on to the end of its month is due where its year or its month is in no set
 pub none_in_month : (items : List FieldItem) (date : Date) (n : ℕ) → epoch_day date ≡ pos n → (year_in_field items date.year && in_field 5 items date.month) ≡ false → NonePasses (is_day_due items) n (n + 1 + (days_in_month date.year date.month - date.day))

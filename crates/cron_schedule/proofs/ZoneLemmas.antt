@@ -1,5 +1,5 @@
 -- The offset of a zone between two of its changes.
-use Rattle.std.proofs.Common.{◌⊎◌, ◌%◌, ◌≡◌, ℕ, zero, suc, ◌+◌, ◌-◌, ◌<◌, ◌≤◌, Bool, true, false, not, ◌&&◌, ◌||◌, nat_eq, Option, Some, None, refl, sym, ◌∙◌, arith, ℤ, pos, ◌<ℤ◌, ◌≤ℤ◌, inl, inr}
+use Rattle.std.proofs.Common.{◌⊎◌, ◌%◌, ◌≡◌, ℕ, zero, suc, ◌+◌, ◌-◌, ◌<◌, ◌≤◌, Bool, true, false, not, ◌&&◌, ◌||◌, nat_eq, if◌then◌else◌, Option, Some, None, refl, sym, ap, ◌∙◌, arith, ℤ, pos, ◌<ℤ◌, ◌≤ℤ◌, inl, inr}
 use Rattle.std.specs.Prelude.{is_some, int_le, int_lt, nat_le}
 use Rattle.std.proofs.lemmas.Bool.{cases_lt}
 use Rattle.std.proofs.lemmas.Bool.Decides.{nat_tests}
@@ -8,11 +8,13 @@ use Rattle.jiff_core.proofs.SignedLemmas.{signed_arith}
 use Rattle.jiff_core.specs.Calendar.{days_in_month, IsYear, IsCivilDate}
 use Rattle.jiff_core.proofs.CalendarLemmas.{days_in_month_bounds, days_from_civil-day_count, day_count-lt_year}
 use Rattle.zone_texts.specs.Changes.{Change}
+use Rattle.zone_texts.specs.declared.zone.ZoneRules.{ZoneRules}
 use Rattle.jiff_core.proofs.DateLemmas.{weekday_number-day}
 use Rattle.cron_schedule.specs.Calendar.{weekday_on}
 use Rattle.cron_schedule.proofs.DayLemmas.{weekday_on_bound}
+use Rattle.cron_schedule.specs.declared.zones.Passed.{Passed}
 use Rattle.cron_schedule.specs.First.{first_in, IsFirst}
-use Rattle.cron_schedule.specs.Zones.{nth_day, rule_day, change_at, some_year, is_ended, has_begun, is_changed, is_preceded, is_before_end, is_daylight, is_daylight_after, IsPassed, IsRule, IsNextFrom, IsRuleDay, RuleDays}
+use Rattle.cron_schedule.specs.Zones.{begin_at, end_at, offset_after, offset_under, nth_day, rule_day, change_at, some_year, is_ended, has_begun, is_changed, is_preceded, is_before_end, is_daylight, is_daylight_past, IsPassed, IsPassing, IsRule, IsNextFrom, IsBeforeNext, IsUpToNext, IsNextReached, IsRuleDay, RuleDays}
 use Rattle.cron_schedule.proofs.FirstLemmas.{cases_test, IsFirst-first_in}
 
 le_yes : (a b : ℤ) → a ≤ℤ b → int_le a b ≡ true
@@ -166,8 +168,15 @@ after_begin begin end u i h some before =
 not_zero : (n : ℕ) → nat_eq (suc n) 0 ≡ false
 not_zero n = grind (arith, nat_tests)
 
+-- daylight time after so many begins and so many ends
+abbrev is_daylight_after : (ℕ → ℤ) → (ℕ → ℤ) → ℕ → ℕ → Bool
+is_daylight_after begin end begins ends =
+    if nat_eq begins 0 then (if nat_eq ends 0 then int_le (end 0) (begin 0) else false)
+    else if nat_eq ends 0 then true
+    else int_lt (end (ends - 1)) (begin (begins - 1))
+
 -- the offset goes by the numbers of begins and ends so far
-pub is_daylight_after-is : (begin end : ℕ → ℤ) (u : ℤ) (i j : ℕ) → Rises begin → Rises end → IsPassed begin u i → IsPassed end u j → is_daylight_after begin end i j ≡ is_daylight begin end u
+is_daylight_after-is : (begin end : ℕ → ℤ) (u : ℤ) (i j : ℕ) → Rises begin → Rises end → IsPassed begin u i → IsPassed end u j → is_daylight_after begin end i j ≡ is_daylight begin end u
 is_daylight_after-is begin end u zero zero rb re hb he =
     before_all begin end u rb re (λ n below. hb.to_come n (omega arith) below) (λ n below. he.to_come n (omega arith) below)
 is_daylight_after-is begin end u zero (suc j) rb re hb he =
@@ -181,6 +190,30 @@ is_daylight_after-is begin end u (suc i) (suc j) rb re hb he =
     (by_lt_z (end (suc j - 1)) (begin (suc i - 1))
     (λ lt. lt_yes (end (suc j - 1)) (begin (suc i - 1)) lt ∙ after_begin begin end u (suc i) hb (omega arith) (λ k below le. let last = last_passed end u (suc j) k re he below le in omega (arith, signed_arith, last.1)))
     (λ le. lt_no (end (suc j - 1)) (begin (suc i - 1)) le ∙ after_end begin end u (suc j) he (omega arith) (λ k below early. let last = last_passed begin u (suc i) k rb hb below early in omega (arith, signed_arith, last.1))))
+
+past_after : (begin end : ℕ → ℤ) (i j : ℕ) (begin_last begin_next end_last end_next : ℤ) → (0 < i → begin_last ≡ begin (i - 1)) → (i < 130 → begin_next ≡ begin i) → (0 < j → end_last ≡ end (j - 1)) → (j < 130 → end_next ≡ end j) → is_daylight_past (record { count = i; last = begin_last; next = begin_next }) (record { count = j; last = end_last; next = end_next }) ≡ is_daylight_after begin end i j
+past_after begin end zero zero bl bn el en hbl hbn hel hen = rw (hbn (omega arith), hen (omega arith))
+past_after begin end zero (suc j) bl bn el en hbl hbn hel hen = rw (not_zero j)
+past_after begin end (suc i) zero bl bn el en hbl hbn hel hen = rw (not_zero i)
+past_after begin end (suc i) (suc j) bl bn el en hbl hbn hel hen = rw (not_zero i, not_zero j, hbl (omega arith), hel (omega arith))
+
+-- it goes by the last of them, at each instant at which as many have passed
+pub is_daylight_past-is : (begin end : ℕ → ℤ) (u v : ℤ) (begins ends : Passed) → Rises begin → Rises end → IsPassing begin u begins → IsPassing end u ends → IsPassed begin v begins.count → IsPassed end v ends.count → is_daylight_past begins ends ≡ is_daylight begin end v
+is_daylight_past-is begin end u v begins ends rb re hb he kb ke =
+    past_after begin end begins.count ends.count begins.last begins.next ends.last ends.next hb.last hb.next he.last he.next
+    ∙ is_daylight_after-is begin end v begins.count ends.count rb re kb ke
+
+-- the next change is above the instant
+pub passing-before : (change : ℕ → ℤ) (at : ℕ) (p : Passed) → IsPassing change (pos at) p → IsBeforeNext p at
+passing-before change at p h lt =
+    let late : pos at <ℤ change p.count = h.count.to_come p.count (omega arith) lt in
+    rw (h.next lt) late
+
+pub passing-next : (change : ℕ → ℤ) (u : ℤ) (p : Passed) (until : ℕ) → IsPassing change u p → IsUpToNext p until → IsNextFrom change p.count until
+passing-next change u p until h le lt = rw (h.next lt) at (le lt)
+
+pub passing-reached : (change : ℕ → ℤ) (u : ℤ) (p : Passed) (until : ℕ) → IsPassing change u p → IsNextReached p until → change p.count ≤ℤ pos until
+passing-reached change u p until h reached = rw (h.next reached.0) at reached.1
 
 -- the changes of a rule come in order of their years
 rule_date : (rule : Change) (n : ℕ) → IsRule rule → n < 130 → IsCivilDate (pos (1970 + n)) rule.month (rule_day rule (pos (1970 + n)))
@@ -202,6 +235,27 @@ change_at-rises rule offset h k m le below =
       | inl lt ↦ later_year rule offset k m h lt below
       | inr ge ↦ let e : k ≡ m = omega arith in rw e (omega (arith, signed_arith))
     ]
+
+-- the offset by rules at each instant at which as many have passed
+pub offset_after-is : (standard : ℤ) (rules : ZoneRules) (u v : ℤ) (begins ends : Passed) → IsRule rules.begin → IsRule rules.end → IsPassing (begin_at standard rules) u begins → IsPassing (end_at rules) u ends → IsPassed (begin_at standard rules) v begins.count → IsPassed (end_at rules) v ends.count → offset_after standard rules begins ends ≡ offset_under standard rules v
+offset_after-is standard rules u v begins ends br er hb he kb ke =
+    ap (λ (light : Bool). if light then rules.daylight else standard) (is_daylight_past-is (begin_at standard rules) (end_at rules) u v begins ends (change_at-rises rules.begin standard br) (change_at-rises rules.end rules.daylight er) hb he kb ke)
+
+-- as many have passed at a later instant below the next
+pub passing_on : (change : ℕ → ℤ) (u v : ℤ) (p : Passed) → Rises change → IsPassing change u p → u ≤ℤ v → (p.count < 130 → v <ℤ p.next) → IsPassing change v p
+passing_on change u v p rises h le early = record {
+  count = record {
+    most = h.count.most;
+    passed = λ k lt. omega (arith, signed_arith, h.count.passed k lt);
+    to_come = λ k low below.
+        let lt : p.count < 130 = omega arith in
+        let next : v <ℤ change p.count = rw (h.next lt) at (early lt) in
+        omega (arith, signed_arith, rises p.count k low below);
+  };
+  last = h.last;
+  next = h.next;
+  bound = h.bound;
+}
 
 -- as many have passed at each instant of a stretch
 pub passed_on : (change : ℕ → ℤ) (u v : ℤ) (until n : ℕ) → Rises change → IsPassed change u n → IsNextFrom change n until → u ≤ℤ v → v <ℤ pos until → IsPassed change v n

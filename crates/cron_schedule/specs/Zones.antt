@@ -1,11 +1,12 @@
 -- The instants at which a zone's clock changes, and its offset at an instant. Instants are seconds since
 -- 1970-01-01T00:00:00Z, and years count from 1970.
 use Rattle.std.specs.Prelude.{◌≡◌, ℕ, ◌+◌, ◌-◌, ◌*◌, ◌/◌, ◌%◌, ◌<◌, ◌≤◌, nat_le, Bool, true, false, not, ◌&&◌, ◌||◌, is_some, int_le, int_lt, ◌==◌, ◌⊎◌, ℤ, pos, ◌+ℤ◌, ◌-ℤ◌, ◌*ℤ◌, ◌<ℤ◌, ◌≤ℤ◌, Option, Some, None, if◌then◌else◌}
-use Rattle.jiff_core.specs.Calendar.{days_in_month, days_from_civil}
+use Rattle.jiff_core.specs.Calendar.{days_in_month, days_from_civil, IsWithin}
 use Rattle.std.specs.Int.{IsInRange}
 use Rattle.zone_texts.specs.Changes.{Change}
 use Rattle.zone_texts.specs.declared.zone.ZoneRules.{ZoneRules}
 use Rattle.zone_texts.specs.declared.zone.Zone.{Zone}
+use Rattle.cron_schedule.specs.declared.zones.Passed.{Passed}
 use Rattle.cron_schedule.specs.First.{first_in}
 use Rattle.cron_schedule.specs.Calendar.{weekday_on, cron_weekday}
 
@@ -90,24 +91,47 @@ pub record IsPassed (change : ℕ → ℤ) (u : ℤ) (n : ℕ) : Type 0 where
   pub passed : (k : ℕ) → k < n → change k ≤ℤ u
   pub to_come : (k : ℕ) → n ≤ k → k < 130 → u <ℤ change k
 
--- daylight time after so many begins and so many ends, where both come in order
-abbrev pub is_daylight_after : (ℕ → ℤ) → (ℕ → ℤ) → ℕ → ℕ → Bool
-is_daylight_after begin end begins ends =
-    if begins == 0 then (if ends == 0 then int_le (end 0) (begin 0) else false)
-    else if ends == 0 then true
-    else int_lt (end (ends - 1)) (begin (begins - 1))
+-- so many instants of a list, and no others, are not above an instant, with the last of them and the next
+pub record IsPassing (change : ℕ → ℤ) (u : ℤ) (p : Passed) : Type 0 where
+  pub count : IsPassed change u p.count
+  pub last : 0 < p.count → p.last ≡ change (p.count - 1)
+  pub next : p.count < 130 → p.next ≡ change p.count
+  pub bound : p.count < 130 → IsWithin 1_000_000_100_000 p.next
+
+-- daylight time after these begins and ends, where both come in order
+abbrev pub is_daylight_past : Passed → Passed → Bool
+is_daylight_past begins ends =
+    if begins.count == 0 then (if ends.count == 0 then int_le ends.next begins.next else false)
+    else if ends.count == 0 then true
+    else int_lt ends.last begins.last
+
+-- the offset after these begins and ends
+abbrev pub offset_after : ℤ → ZoneRules → Passed → Passed → ℤ
+offset_after standard rules begins ends = if is_daylight_past begins ends then rules.daylight else standard
 
 -- the next of a list of instants, after the first n, is not below a second
 abbrev pub IsNextFrom : (ℕ → ℤ) → ℕ → ℕ → Type 0
 IsNextFrom change n until = n < 130 → pos until ≤ℤ change n
 
+-- the next change is above a second
+abbrev pub IsBeforeNext : Passed → ℕ → Type 0
+IsBeforeNext p at = p.count < 130 → pos at <ℤ p.next
+
+-- and not below one
+abbrev pub IsUpToNext : Passed → ℕ → Type 0
+IsUpToNext p until = p.count < 130 → pos until ≤ℤ p.next
+
+-- there is a next change, and it is not above a second
+abbrev pub IsNextReached : Passed → ℕ → Type 0
+IsNextReached p until = (p.count < 130) × (p.next ≤ℤ pos until)
+
 -- a stretch with one offset ends at a second: at a change, or with 2099
-pub record IsStretchEnd (begin end : ℕ → ℤ) (begins ends at until : ℕ) : Type 0 where
+pub record IsStretchEnd (begins ends : Passed) (at until : ℕ) : Type 0 where
   pub later : at < until
   pub most : until ≤ 4102444800
-  pub before_begin : IsNextFrom begin begins until
-  pub before_end : IsNextFrom end ends until
-  pub reached : (until ≡ 4102444800) ⊎ (((begins < 130) × (begin begins ≤ℤ pos until)) ⊎ ((ends < 130) × (end ends ≤ℤ pos until)))
+  pub before_begin : IsUpToNext begins until
+  pub before_end : IsUpToNext ends until
+  pub reached : (until ≡ 4102444800) ⊎ (IsNextReached begins until ⊎ IsNextReached ends until)
 
 -- a day of a month is of a rule's weekday, and lies in its week; week 5 is the last seven days
 pub record IsRuleDay (rule : Change) (y : ℤ) (d : ℕ) : Type 0 where

@@ -4,11 +4,11 @@ ghost use Rattle.job_values.specs.declared.limits.TheConstants.{LAST_MOMENT};
 ghost use Rattle.cron_schedule.specs.First.{first_in, IsFirst};
 ghost use Rattle.cron_schedule.specs.Due.{DueIn, DayDue, is_due, is_due_in, is_utc_due, is_clock_due};
 ghost use Rattle.cron_schedule.specs.Civil.{IsUtc, clip};
-ghost use Rattle.cron_schedule.specs.Zones.{begin_at, end_at, offset_under, offset_by, IsRule, IsPassed, IsNextFrom};
+ghost use Rattle.cron_schedule.specs.Zones.{begin_at, end_at, offset_under, offset_by, IsRule, IsPassing, IsUpToNext};
 ghost use Rattle.cron_schedule.specs.After.{most_steps};
 
 use super::cron::{Cron, DAYS, SECONDS};
-use super::zones::{count_passed, offset_of, offset_past, passed_by, stretch_end};
+use super::zones::{Passed, offset_of, offset_past, passed_by, passed_later, stretch_end};
 use job_values::steps::Steps;
 use job_values::{Moment, Offset};
 use std::sync::ledger::Ledger;
@@ -65,18 +65,18 @@ fn first_in_stretch<L: Ledger>(
     cron: &Cron,
     standard: Offset,
     rules: &ZoneRules,
-    begins: u32,
-    ends: u32,
+    begins: Passed,
+    ends: Passed,
     from: u32,
     until: u32,
     steps: &mut Steps<L>,
 ) -> Option<u32>
     requires begin { IsRule rules.now.begin }
     requires end { IsRule rules.now.end }
-    requires begins { IsPassed (begin_at standard rules.now) (pos from) begins }
-    requires ends { IsPassed (end_at rules.now) (pos from) ends }
-    requires next_begin { IsNextFrom (begin_at standard rules.now) begins until }
-    requires next_end { IsNextFrom (end_at rules.now) ends until }
+    requires begins { IsPassing (begin_at standard rules.now) (pos from) begins }
+    requires ends { IsPassing (end_at rules.now) (pos from) ends }
+    requires next_begin { IsUpToNext begins until }
+    requires next_end { IsUpToNext ends until }
     requires from { from ≤ until }
     requires until { until ≤ SECONDS }
     ensures first { IsFirst (is_utc_due cron.now (offset_under standard rules.now)) from until result }
@@ -103,14 +103,14 @@ fn first_by_rules<L: Ledger>(
     let mut begins = passed_by(&rules.begin, standard, from);
     let mut ends = passed_by(&rules.end, rules.daylight, from);
     while at < SECONDS {
-        let until = stretch_end(standard, rules, begins, ends, at);
+        let until = stretch_end(begins, ends, at);
         if let Some(second) = first_in_stretch(
             cron, standard, rules, begins, ends, at, until, steps,
         ) {
             return Some(second);
         }
-        begins = count_passed(&rules.begin, standard, until, begins);
-        ends = count_passed(&rules.end, rules.daylight, until, ends);
+        begins = passed_later(&rules.begin, standard, begins, at, until);
+        ends = passed_later(&rules.end, rules.daylight, ends, at, until);
         at = until;
     }
     None

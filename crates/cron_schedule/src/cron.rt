@@ -1,16 +1,15 @@
 //! A cron text's items with tables of their sets, and the search for its due times.
-ghost use Rattle.std.specs.Prelude.{◌≡◌, ◌+◌, ◌-◌, ◌*◌, ◌/◌, ◌<◌, ◌≤◌, ◌&&◌, ◌⊎◌, ◌↔◌, IsTrue, true, IfOk, IfSome, IfNone, pos, ◌<ℤ◌};
+ghost use Rattle.std.specs.Prelude.{◌≡◌, ℕ, ◌+◌, ◌-◌, ◌*◌, ◌/◌, ◌<◌, ◌≤◌, ◌&&◌, ◌⊎◌, ◌↔◌, IsTrue, true, false, IfOk, IfSome, IfNone, pos, ◌<ℤ◌};
 ghost use Rattle.cron_schedule.specs.First.{IsFirst, NonePasses};
 ghost use Rattle.cron_schedule.specs.Sets.{in_field};
-ghost use Rattle.cron_schedule.specs.Calendar.{weekday_on};
 ghost use Rattle.cron_schedule.specs.CronTables.{is_plain, are_plain};
 ghost use Rattle.cron_schedule.specs.Days.{year_in_field, day_in_field, weekday_in_field};
 ghost use Rattle.cron_schedule.specs.Due.{is_day_due, is_hour_second_due, is_second_due, is_local_due};
 
-use super::days::{Day, is_day_in_field, is_weekday_in_field};
+use super::days::{Day, cron_weekday_of, is_day_in_field, is_weekday_in_field};
 use super::item::{FieldItem, Item};
 use super::sets::{has, next_in, table_of};
-use jiff_core::civil::{Date, days_in_month};
+use jiff_core::civil::Date;
 use job_values::steps::Steps;
 use job_values::{NoMemory, Seq};
 use std::alloc::Global;
@@ -22,9 +21,6 @@ pub const DAYS: u32 = 47_482;
 
 /// The seconds of these days.
 pub const SECONDS: u32 = 4_102_444_800;
-
-/// How many days lie between the first date of the library and 1970-01-01.
-const FIRST_DAYS: u32 = 4_371_587;
 
 /// The items of a cron text, each with its field, in the order of the text.
 #[derive(Drop)]
@@ -119,21 +115,23 @@ impl Cron {
         self.is_year_in(date) && has(&self.months, 13, date.month as u32)
     }
 
-    fn is_date_in(&self, date: Date, weekday: u32) -> bool
-        requires { weekday ≡ weekday_on date.year date.month date.day }
-        ensures { result ≡ (day_in_field self.now date.year date.month date.day && weekday_in_field self.now date.year date.month date.day) }
+    fn is_date_in(&self, day: &Day) -> bool
+        ensures { result ≡ (day_in_field self.now day.now.date.year day.now.date.month day.now.date.day && weekday_in_field self.now day.now.date.year day.now.date.month day.now.date.day) }
     {
         if self.plain {
-            return has(&self.days, 32, date.day as u32)
-                && has(&self.weekdays, 8, (weekday + 1) % 7 + 1);
+            return has(&self.days, 32, day.date.day as u32)
+                && has(&self.weekdays, 8, cron_weekday_of(day));
         }
-        let day = Day {
-            date,
-            length: days_in_month(date.year, date.month) as u32,
-            weekday,
-        };
         let items = self.items.as_slice();
-        is_day_in_field(items, &day) && is_weekday_in_field(items, &day)
+        is_day_in_field(items, day) && is_weekday_in_field(items, day)
+    }
+
+    fn is_due<L: Ledger>(&self, day: &Day, steps: &mut Steps<L>) -> bool
+        ensures due { result ≡ is_day_due self.now day.now.number }
+        ensures cost { steps.new ≡ steps.old + 1 }
+    {
+        steps.tick();
+        self.is_month_in(&day.date) && self.is_date_in(day)
     }
 
     /// Whether the day that many days after 1970-01-01 is in the four sets of days: one step.
@@ -142,9 +140,7 @@ impl Cron {
         ensures due { result ≡ is_day_due self.now day }
         ensures cost { steps.new ≡ steps.old + 1 }
     {
-        steps.tick();
-        let date = Date::from_days_since_min(day + FIRST_DAYS);
-        self.is_month_in(&date) && self.is_date_in(date, (day + 3) % 7)
+        self.is_due(&Day::of(day), steps)
     }
 
     fn is_time_due(&self, second: u32) -> bool
@@ -195,42 +191,61 @@ impl Cron {
         Some(hour * 3600 + second)
     }
 
-    /// The day itself where it is in the four sets, else a later day, with none in the sets before
-    /// it: one step. A month that is in no set is passed over at once.
-    fn day_or_later<L: Ledger>(&self, day: u32, steps: &mut Steps<L>) -> u32
-        requires { day < DAYS }
-        ensures due { (result ≡ day) → is_day_due self.now day ≡ true }
-        ensures least { day ≤ result }
-        ensures most { result ≤ day + 31 }
-        ensures none { NonePasses (is_day_due self.now) day result }
-        ensures cost { steps.new ≡ steps.old + 1 }
+    /// A day of the month after this one, or one past its end, with none between in the set of days.
+    fn next_date(&self, day: &Day) -> u32
+        ensures later { day.now.date.day < result }
+        ensures most { result ≤ 32 }
+        ensures none { (d : ℕ) → day.now.date.day < d → d < result → day_in_field self.now day.now.date.year day.now.date.month d ≡ false }
     {
-        steps.tick();
-        let date = Date::from_days_since_min(day + FIRST_DAYS);
-        if !self.is_month_in(&date) {
-            let length = days_in_month(date.year, date.month);
-            return day + 1 + (length - date.day) as u32;
+        let after = day.date.day as u32 + 1;
+        if !self.plain {
+            return after;
         }
-        if self.is_date_in(date, (day + 3) % 7) {
-            day
-        } else {
-            day + 1
+        match next_in(&self.days, 32, after) {
+            Some(next) => next,
+            None => 32,
         }
     }
 
-    fn first_day<L: Ledger>(&self, from: u32, days: u32, steps: &mut Steps<L>) -> Option<u32>
-        requires from { from ≤ days }
+    /// The day itself where it is in the four sets, else a later day, with none in the sets before
+    /// it: one step. A month that is in no set, and days of it, are passed over at once.
+    fn day_or_later<L: Ledger>(&self, day: Day, steps: &mut Steps<L>) -> Day
+        requires { day.number < DAYS }
+        ensures due { (result.number ≡ day.number) → is_day_due self.now day.number ≡ true }
+        ensures least { day.number ≤ result.number }
+        ensures none { NonePasses (is_day_due self.now) day.number result.number }
+        ensures bound { result.number ≤ day.number + 31 }
+        ensures cost { steps.new ≡ steps.old + 1 }
+    {
+        steps.tick();
+        if !self.is_month_in(&day.date) {
+            return day.next_month();
+        }
+        if self.is_date_in(&day) {
+            return day;
+        }
+        let next = self.next_date(&day);
+        if next <= day.length {
+            day.moved_to(next)
+        } else {
+            day.next_month()
+        }
+    }
+
+    /// The first day that is in the four sets, from one on and below a number.
+    fn first_day<L: Ledger>(&self, from: Day, days: u32, steps: &mut Steps<L>) -> Option<u32>
+        requires from { from.number ≤ days }
         requires days { days ≤ DAYS }
-        ensures first { IsFirst (is_day_due self.now) from days result }
-        ensures cost { steps.new ≤ steps.old + (days - from) }
+        ensures first { IsFirst (is_day_due self.now) from.number days result }
+        ensures cost { steps.new ≤ steps.old + (days - from.number) }
     {
         let mut day = from;
-        while day < days {
+        while day.number < days {
             let next = self.day_or_later(day, steps);
-            if next == day {
-                return Some(day);
+            if next.number == day.number {
+                return Some(day.number);
             }
-            day = next.min(days);
+            day = next;
         }
         None
     }
@@ -241,14 +256,14 @@ impl Cron {
         ensures first { IsFirst (is_local_due self.now) from (days * 86400) result }
         ensures cost { steps.new + from / 86400 ≤ steps.old + days }
     {
-        let day = from / 86_400;
-        if self.is_due_on(day, steps) {
+        let day = Day::of(from / 86_400);
+        if self.is_due(&day, steps) {
             if let Some(second) = self.first_in_day(from % 86_400) {
-                return Some(day * 86_400 + second);
+                return Some(day.number * 86_400 + second);
             }
         }
         let second = self.first_in_day(0)?;
-        let day = self.first_day(day + 1, days, steps)?;
+        let day = self.first_day(day.next(), days, steps)?;
         Some(day * 86_400 + second)
     }
 

@@ -1,7 +1,8 @@
 //! The instants at which a zone's clock changes, and its offsets between them.
-ghost use Rattle.std.specs.Prelude.{◌≡◌, ℕ, ◌+◌, ◌<◌, ◌≤◌, ◌⊎◌, ℤ, pos, ◌≤ℤ◌};
+ghost use Rattle.std.specs.Prelude.{◌≡◌, ℕ, ◌+◌, ◌-◌, ◌<◌, ◌≤◌, ◌⊎◌, ℤ, pos, ◌≤ℤ◌};
 ghost use Rattle.jiff_core.specs.Calendar.{IsWithin};
-ghost use Rattle.cron_schedule.specs.Zones.{rule_day, rule_second, change_at, begin_at, end_at, offset_under, offset_by, is_daylight_after, IsRule, IsPassed, IsNextFrom, IsStretchEnd};
+ghost use Rattle.cron_schedule.specs.Zones as Zones;
+ghost use Rattle.cron_schedule.specs.Zones.{rule_day, rule_second, change_at, offset_after, offset_under, offset_by, IsRule, IsPassing, IsBeforeNext, IsUpToNext, IsNextReached, IsStretchEnd};
 
 use super::cron::SECONDS;
 use jiff_core::civil::{Date, days_in_month};
@@ -52,66 +53,105 @@ fn change_second(rule: &ChangeRule, offset: Offset, year: u32) -> i64
     rule_second_of(rule, year) - offset.get() as i64
 }
 
-/// How many of a rule's changes are not above an instant, where the first so many are known.
-pub fn count_passed(rule: &ChangeRule, offset: Offset, at: u32, known: u32) -> u32
-    requires most { known ≤ YEARS }
-    requires passed { (k : ℕ) → k < known → change_at rule.now offset k ≤ℤ pos at }
-    ensures { IsPassed (change_at rule.now offset) (pos at) result }
-{
-    for year in known..YEARS {
-        if change_second(rule, offset, year) > at as i64 {
-            return year;
-        }
-    }
-    YEARS
+/// How many of a rule's changes are not above an instant, with the two about it.
+#[derive(Clone, Copy, Debug)]
+pub struct Passed {
+    pub count: u32,
+    /// The last of these changes, where there is one.
+    pub last: i64,
+    /// The change after these, where there is one.
+    pub next: i64,
 }
 
-/// How many of a rule's changes are not above a second since 1970.
-pub fn passed_by(rule: &ChangeRule, offset: Offset, at: u32) -> u32
+/// The changes that are not above an instant, where the first so many are known.
+fn passed_from(rule: &ChangeRule, offset: Offset, at: u32, known: u32, last: i64) -> Passed
+    requires most { known ≤ YEARS }
+    requires passed { (k : ℕ) → k < known → change_at rule.now offset k ≤ℤ pos at }
+    requires last { 0 < known → last ≡ change_at rule.now offset (known - 1) }
+    ensures { IsPassing (change_at rule.now offset) (pos at) result }
+{
+    let mut last = last;
+    for year in known..YEARS {
+        let next = change_second(rule, offset, year);
+        if next > at as i64 {
+            return Passed {
+                count: year,
+                last,
+                next,
+            };
+        }
+        last = next;
+    }
+    Passed {
+        count: YEARS,
+        last,
+        next: last,
+    }
+}
+
+/// The changes that are not above a second since 1970.
+pub fn passed_by(rule: &ChangeRule, offset: Offset, at: u32) -> Passed
     requires { at ≤ SECONDS }
-    ensures passed { IsPassed (change_at rule.now offset) (pos at) result }
+    ensures passed { IsPassing (change_at rule.now offset) (pos at) result }
     ensures rule { IsRule rule.now }
 {
     // No year is longer than 366 days, so that mostly the changes of as many years are past.
     let year = at / 31_622_400;
-    if change_second(rule, offset, year) <= at as i64 {
-        count_passed(rule, offset, at, year + 1)
-    } else if year > 0 && change_second(rule, offset, year - 1) <= at as i64 {
-        count_passed(rule, offset, at, year)
-    } else {
-        count_passed(rule, offset, at, 0)
+    let change = change_second(rule, offset, year);
+    if change <= at as i64 {
+        return passed_from(rule, offset, at, year + 1, change);
     }
+    if year > 0 {
+        let before = change_second(rule, offset, year - 1);
+        if before <= at as i64 {
+            return Passed {
+                count: year,
+                last: before,
+                next: change,
+            };
+        }
+    }
+    passed_from(rule, offset, at, 0, 0)
 }
 
-/// Whether daylight time holds after so many begins and so many ends.
-fn is_daylight_past(standard: Offset, rules: &ZoneRules, begins: u32, ends: u32) -> bool
-    requires begins { begins ≤ YEARS }
-    requires ends { ends ≤ YEARS }
-    ensures { result ≡ is_daylight_after (begin_at standard rules.now) (end_at rules.now) begins ends }
+/// The same, where the changes that are not above an earlier second are known.
+pub fn passed_later(rule: &ChangeRule, offset: Offset, passed: Passed, from: u32, at: u32) -> Passed
+    requires later { from ≤ at }
+    requires passed { IsPassing (change_at rule.now offset) (pos from) passed }
+    requires rule { IsRule rule.now }
+    ensures { IsPassing (change_at rule.now offset) (pos at) result }
 {
-    if begins == 0 {
-        if ends == 0 {
-            change_second(&rules.end, rules.daylight, 0) <= change_second(&rules.begin, standard, 0)
+    if passed.count == YEARS {
+        return passed;
+    }
+    if passed.next > at as i64 {
+        return passed;
+    }
+    passed_from(rule, offset, at, passed.count + 1, passed.next)
+}
+
+/// Whether daylight time holds after these begins and ends.
+fn is_daylight_past(begins: Passed, ends: Passed) -> bool
+    ensures { result ≡ Zones.is_daylight_past begins ends }
+{
+    if begins.count == 0 {
+        if ends.count == 0 {
+            ends.next <= begins.next
         } else {
             false
         }
-    } else if ends == 0 {
+    } else if ends.count == 0 {
         true
     } else {
-        change_second(&rules.end, rules.daylight, ends - 1)
-            < change_second(&rules.begin, standard, begins - 1)
+        ends.last < begins.last
     }
 }
 
-/// The offset after so many begins and so many ends.
-pub fn offset_past(standard: Offset, rules: &ZoneRules, begins: u32, ends: u32) -> Offset
-    requires begins { begins ≤ YEARS }
-    requires ends { ends ≤ YEARS }
-    requires begin { IsRule rules.now.begin }
-    requires end { IsRule rules.now.end }
-    ensures { (u : ℤ) → IsPassed (begin_at standard rules.now) u begins → IsPassed (end_at rules.now) u ends → result ≡ offset_under standard rules.now u }
+/// The offset after these begins and ends.
+pub fn offset_past(standard: Offset, rules: &ZoneRules, begins: Passed, ends: Passed) -> Offset
+    ensures { result ≡ offset_after standard rules.now begins ends }
 {
-    if is_daylight_past(standard, rules, begins, ends) {
+    if is_daylight_past(begins, ends) {
         rules.daylight
     } else {
         standard
@@ -139,34 +179,30 @@ pub fn offset_of(zone: &Zone, at: u32) -> Offset
     }
 }
 
-/// The second of a change, or the end of 2099 where that comes before it.
-fn change_or_end(rule: &ChangeRule, offset: Offset, passed: u32, at: u32) -> u32
+/// The second of the next change, or the end of 2099 where that comes before it.
+fn next_or_end(passed: Passed, at: u32) -> u32
     requires at { at < SECONDS }
-    requires passed { IsPassed (change_at rule.now offset) (pos at) passed }
+    requires next { IsBeforeNext passed at }
     ensures later { at < result }
     ensures most { result ≤ SECONDS }
-    ensures next { IsNextFrom (change_at rule.now offset) passed result }
-    ensures reached { (result ≡ SECONDS) ⊎ ((passed < YEARS) × (change_at rule.now offset passed ≤ℤ pos result)) }
+    ensures next { IsUpToNext passed result }
+    ensures reached { (result ≡ SECONDS) ⊎ IsNextReached passed result }
 {
-    if passed == YEARS {
-        return SECONDS;
-    }
-    let change = change_second(rule, offset, passed);
-    if change < SECONDS as i64 {
-        change as u32
+    if passed.count < YEARS && passed.next < SECONDS as i64 {
+        passed.next as u32
     } else {
         SECONDS
     }
 }
 
 /// The end of the stretch with one offset in which a second lies.
-pub fn stretch_end(standard: Offset, rules: &ZoneRules, begins: u32, ends: u32, at: u32) -> u32
+pub fn stretch_end(begins: Passed, ends: Passed, at: u32) -> u32
     requires at { at < SECONDS }
-    requires begins { IsPassed (begin_at standard rules.now) (pos at) begins }
-    requires ends { IsPassed (end_at rules.now) (pos at) ends }
-    ensures { IsStretchEnd (begin_at standard rules.now) (end_at rules.now) begins ends at result }
+    requires begin { IsBeforeNext begins at }
+    requires end { IsBeforeNext ends at }
+    ensures { IsStretchEnd begins ends at result }
 {
-    let begin = change_or_end(&rules.begin, standard, begins, at);
-    let end = change_or_end(&rules.end, rules.daylight, ends, at);
+    let begin = next_or_end(begins, at);
+    let end = next_or_end(ends, at);
     if begin < end { begin } else { end }
 }

@@ -4,8 +4,8 @@ use Rattle.cron_schedule.proofs.zones.stretch_end.Goals as goal
 
 pub returns-then-begin-end : goal.returns-then-begin-end
 returns-then-begin-end c =
-    let begin = c.change_or_end-begin.ensures in
-    let end = c.change_or_end-end.ensures in
+    let begin = c.next_or_end-begin.ensures in
+    let end = c.next_or_end-end.ensures in
     record {
       later = begin.later;
       most = begin.most;
@@ -19,8 +19,8 @@ returns-then-begin-end c =
 
 pub returns-else-begin-end : goal.returns-else-begin-end
 returns-else-begin-end c =
-    let begin = c.change_or_end-begin.ensures in
-    let end = c.change_or_end-end.ensures in
+    let begin = c.next_or_end-begin.ensures in
+    let end = c.next_or_end-end.ensures in
     record {
       later = end.later;
       most = end.most;

@@ -1,4 +1,4 @@
-//! How many times after a moment, and how many texts a second.
+//! How many times after a moment, at an offset and in zones with rules, and how many texts a second.
 
 use cron_schedule::{ParseFault, Schedule};
 use job_values::{Moment, Offset, ScheduleKind, Text};
@@ -36,12 +36,37 @@ const RARE: [&str; 10] = [
     "59 59 23 L 2 ?",
 ];
 
+/// The zones whose clocks tell the times: one without rules, a northern and a southern one.
+const ZONES: [&str; 3] = [
+    "CST-8",
+    "EST5EDT,M3.2.0,M11.1.0",
+    "AEST-10AEDT,M10.1.0,M4.1.0/3",
+];
+
 /// Runs the workload so many rounds and prints what it found, with operations per second if timed.
 pub fn run(rt: &(impl Print + Clock), alloc: Global, rounds: u32, timed: bool) -> io::Result<()> {
-    times(rt, alloc, "everyday", &EVERYDAY, rounds, timed)?;
-    times(rt, alloc, "rare", &RARE, rounds, timed)?;
+    for zone in &ZONES {
+        in_zone(rt, alloc, zone, rounds, timed)?;
+    }
     texts(rt, alloc, "everyday", &EVERYDAY, rounds, timed)?;
     texts(rt, alloc, "rare", &RARE, rounds, timed)
+}
+
+fn in_zone(
+    rt: &(impl Print + Clock),
+    alloc: Global,
+    text: &str,
+    rounds: u32,
+    timed: bool,
+) -> io::Result<()> {
+    if let (Ok(words), Some(offset)) = (Text::copied(alloc, text), Offset::new(0)) {
+        if let Ok(zone) = Zone::parse(&words, offset) {
+            println!(rt; "zone {text}")?;
+            times(rt, alloc, "everyday", &EVERYDAY, &zone, rounds, timed)?;
+            times(rt, alloc, "rare", &RARE, &zone, rounds, timed)?;
+        }
+    }
+    Ok(())
 }
 
 fn times(
@@ -49,6 +74,7 @@ fn times(
     alloc: Global,
     name: &str,
     texts: &[&str],
+    zone: &Zone,
     rounds: u32,
     timed: bool,
 ) -> io::Result<()> {
@@ -57,7 +83,7 @@ fn times(
     let start = Instant::now(rt)?;
     for text in texts {
         if let Ok(schedule) = read(alloc, text) {
-            let (some, end) = walk(&schedule, rounds);
+            let (some, end) = walk(&schedule, zone, rounds);
             found = found.saturating_add(some);
             none = none.saturating_add(end);
         }
@@ -68,17 +94,13 @@ fn times(
 }
 
 /// Goes from each due time to the next, and begins again where there is none.
-fn walk(schedule: &Schedule, rounds: u32) -> (u64, u64) {
+fn walk(schedule: &Schedule, zone: &Zone, rounds: u32) -> (u64, u64) {
     let mut found: u64 = 0;
     let mut none: u64 = 0;
-    if let (Some(start), Some(offset)) = (Moment::new(1_717_200_000_000), Offset::new(28_800)) {
-        let zone = Zone {
-            standard: offset,
-            rules: None,
-        };
+    if let Some(start) = Moment::new(1_717_200_000_000) {
         let mut at = start;
         for _ in 0..rounds {
-            match schedule.after(at, &zone) {
+            match schedule.after(at, zone) {
                 Some(next) => {
                     found = found.saturating_add(1);
                     at = next;

@@ -1,5 +1,5 @@
 -- The test of a day agrees with the library's dates.
-use Rattle.std.proofs.Common.{◌≡◌, ℕ, zero, suc, ◌+◌, ◌-◌, ◌%◌, ◌<◌, ◌≤◌, nat_lt, Bool, true, false, ◌&&◌, refl, sym, ap, ◌∙◌, arith, ℤ, pos, ◌+ℤ◌, inl, inr, List}
+use Rattle.std.proofs.Common.{◌≡◌, ℕ, zero, suc, ◌+◌, ◌-◌, ◌%◌, ◌<◌, ◌≤◌, nat_lt, Bool, true, false, ◌&&◌, refl, sym, ap, ◌∙◌, arith, ℤ, pos, inl, inr, List}
 use Rattle.std.proofs.lemmas.Bool.{cases_lt}
 use Rattle.std.proofs.lemmas.Bool.Decides.{nat_tests}
 use Rattle.jiff_core.specs.declared.civil.date.Date.{Date}
@@ -25,9 +25,6 @@ is_day_due-date items date n e =
 -- 1 January 1970 was a Thursday
 pub weekday_on-number : (date : Date) (n : ℕ) → epoch_day date ≡ pos n → (n + 3) % 7 ≡ weekday_on date.year date.month date.day
 weekday_on-number date n e = rw e (omega (arith, signed_arith, weekday_number-parts (pos n)))
-
-pub number_is : (z : ℤ) (n : ℕ) → z +ℤ pos 4_371_587 ≡ pos (n + 4_371_587) → z ≡ pos n
-number_is z n e = omega (arith, signed_arith)
 
 day_moved : (y : ℤ) (m d e n k : ℕ) → 1 ≤ d → 1 ≤ e → days_from_civil y m d ≡ pos n → k + d ≡ n + e → days_from_civil y m e ≡ pos k
 day_moved y m d e n k low least h same = omega (arith, signed_arith, days_from_civil-day y m d e low least)

@@ -1,4 +1,4 @@
-use Rattle.std.proofs.Common.{◌≤◌, arith, inl, inr, pos, ◌≤ℤ◌}
+use Rattle.std.proofs.Common.{◌≤◌, arith, inl, inr, pos}
 use Rattle.jiff_core.proofs.SignedLemmas.{signed_arith}
 use Rattle.cron_schedule.specs.Due.{is_utc_due}
 use Rattle.cron_schedule.specs.Zones.{begin_at, end_at, offset_under}

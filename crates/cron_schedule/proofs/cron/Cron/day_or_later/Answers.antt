@@ -1,6 +1,5 @@
 use Rattle.std.proofs.Common.{◌≡◌, ◌+◌, ◌-◌, false, arith, sym, ◌∙◌}
 use Rattle.jiff_core.specs.Calendar.{days_in_month}
-use Rattle.jiff_core.proofs.CalendarLemmas.{days_in_month_bounds}
 use Rattle.cron_schedule.specs.Due.{is_day_due}
 use Rattle.cron_schedule.proofs.DueLemmas.{is_day_due-date, after_month, none_in_month, none_to_date}
 use Rattle.cron_schedule.proofs.cron.Cron.day_or_later.Goals as goal

@@ -1,6 +1,5 @@
 use Rattle.std.proofs.Common.{◌≡◌, to_z, of_z, w16, arith, ◌∙◌}
 use Rattle.jiff_core.proofs.SignedLemmas.{signed_arith}
-use Rattle.jiff_core.specs.Calendar.{days_in_month}
 use Rattle.cron_schedule.proofs.DueLemmas.{same_month_day}
 use Rattle.cron_schedule.proofs.days.Day.moved_to.Goals as goal
 

@@ -15,7 +15,7 @@ use Rattle.serde_json.specs.Written.{has_float, members_have_float, compact_text
 use Rattle.job_values.specs.declared.no_memory.NoMemory.{NoMemory}
 use Rattle.serde_json.specs.Read.{read, max_depth}
 use Rattle.api_messages.specs.Members.{Cell, none, int, text, bool, value, Kind, whole, not_negative, text_within, any_text, cut_text, truth, any_value, Row}
-use Rattle.api_messages.specs.Meaning.{most_bytes}
+use Rattle.job_values.specs.declared.limits.TheConstants.{LONGEST_BODY}
 use Rattle.api_messages.specs.Reading.{◌>>=◌, within, whole_in, cut, read_as, cell_at, cells_from, object_at, message_at}
 use Rattle.api_messages.specs.Writing.{data_of, written, object_of, most_depth, FitsKind, FitsRow, Fit}
 use Rattle.api_messages.specs.declared.fault.MessageFault.{MessageFault}
@@ -235,20 +235,20 @@ written_depth (row ∷ rows) (c ∷ cs) h = unless_depth _ row.name (data_of c) 
 pub object_depth : (rows : List Row) (cells : List Cell) → Fit rows cells → depth (object_of rows cells) ≤ max_depth
 object_depth rows cells h = omega (arith, written_depth rows cells h)
 
-pub message_again : (rows : List Row) (cells : List Cell) (b : List ℕ) → all_apart rows ≡ true → Fit rows cells → length b ≤ most_bytes → IsUtf8 b → read b ≡ Some (object_of rows cells) → message_at rows b ≡ Ok cells
+pub message_again : (rows : List Row) (cells : List Cell) (b : List ℕ) → all_apart rows ≡ true → Fit rows cells → length b ≤ LONGEST_BODY → IsUtf8 b → read b ≡ Some (object_of rows cells) → message_at rows b ≡ Ok cells
 unfolding message_at object_at
 message_again rows cells b apart fits short utf8 reads = rw (value_at-json b _ short utf8 reads, cells_again [] rows cells apart fits) refl
 
 -- the message of what was written, where its values fit
 pub reads_again : (r : Result (List ℕ) NoMemory) (d : Data) (rows : List Row) (cells : List Cell) → d ≡ object_of rows cells → all_apart rows ≡ true → IfOk r IsUtf8
-    → IfOk r (λ b. depth d ≤ max_depth → read b ≡ Some d) → IfOk r (λ b. length b ≤ most_bytes → Fit rows cells → message_at rows b ≡ Ok cells)
+    → IfOk r (λ b. depth d ≤ max_depth → read b ≡ Some d) → IfOk r (λ b. length b ≤ LONGEST_BODY → Fit rows cells → message_at rows b ≡ Ok cells)
 reads_again (Ok b) d rows cells is apart utf8 reads =
     λ short fits. message_again rows cells b apart fits short utf8 (subst (λ e. depth e ≤ max_depth → read b ≡ Some e) is reads (object_depth rows cells fits))
 reads_again (Err e) d rows cells is apart utf8 reads = tt
 
 -- the same, where the writer knows that they fit
 pub fitting_again : (r : Result (List ℕ) NoMemory) (d : Data) (rows : List Row) (cells : List Cell) → d ≡ object_of rows cells → all_apart rows ≡ true → IfOk r IsUtf8
-    → IfOk r (λ b. depth d ≤ max_depth → read b ≡ Some d) → Fit rows cells → IfOk r (λ b. length b ≤ most_bytes → message_at rows b ≡ Ok cells)
+    → IfOk r (λ b. depth d ≤ max_depth → read b ≡ Some d) → Fit rows cells → IfOk r (λ b. length b ≤ LONGEST_BODY → message_at rows b ≡ Ok cells)
 fitting_again (Ok b) d rows cells is apart utf8 reads fits = λ short. reads_again (Ok b) d rows cells is apart utf8 reads short fits
 fitting_again (Err e) d rows cells is apart utf8 reads fits = tt
 

@@ -109,6 +109,10 @@ or_fault_err : {A : Type 0} (e f : MessageFault) (o : Option A) → or_fault e o
 or_fault_err e f None h = (cc, refl)
 or_fault_err e f (Some y) h = absurd cc
 
+some_or_none : {A : Type 0} (o : Option A) → (o ≡ None) ⊎ ((x : A) × (o ≡ Some x))
+some_or_none None = inl refl
+some_or_none (Some x) = inr (x, refl)
+
 null_test : (d : Data) → ((d ≡ null) × (not_null d ≡ None)) ⊎ ((d ≢ null) × (not_null d ≡ Some d))
 null_test null = inl (refl, refl)
 null_test (boolean b) = inr ((λ e. cc), refl)
@@ -125,15 +129,30 @@ found_is row d c (Some v) e h =
       | inr p ↦ inr (v, e, p.0, kind_is row.kind v c (sym (ap (found_or row.missing row.kind) p.1) ∙ h))
     ]
 
-absent_is : (row : Row) (d : Data) → IsMissing row.name d → present row.name d ≡ None
-absent_is row d (inl e) = rw e refl
-absent_is row d (inr e) = rw e refl
+pub absent_is : (name : List ℕ) (d : Data) → IsMissing name d → present name d ≡ None
+absent_is name d (inl e) = rw e refl
+absent_is name d (inr e) = rw e refl
+
+pub there_is : (name : List ℕ) (d v : Data) → get name d ≡ Some v → v ≢ null → present name d ≡ Some v
+there_is name d v e some =
+    let there : not_null v ≡ Some v = elim (null_test v) [ inl p ↦ absurd (some p.0) | inr p ↦ p.1 ] in
+    rw (e, there) refl
+
+-- a member is missing, or has a value
+pub presence : (name : List ℕ) (d : Data) → (IsMissing name d × (present name d ≡ None)) ⊎ ((v : Data) × (get name d ≡ Some v) × (v ≢ null) × (present name d ≡ Some v))
+presence name d =
+    elim (some_or_none (get name d)) [
+      | inl e ↦ inl (inl e, absent_is name d (inl e))
+      | inr p ↦
+          elim (null_test p.0) [
+            | inl q ↦ let gone : get name d ≡ Some null = p.1 ∙ ap Some q.0 in inl (inr gone, absent_is name d (inr gone))
+            | inr q ↦ inr (p.0, p.1, q.0, there_is name d p.0 p.1 q.0)
+          ]
+    ]
 
 found_has : (row : Row) (d : Data) (c : Cell) → Has row d c → found_or row.missing row.kind (present row.name d) ≡ Some c
-found_has row d c (inl h) = rw (absent_is row d h.0) h.1
-found_has row d c (inr h) =
-    let there : not_null h.0 ≡ Some h.0 = elim (null_test h.0) [ inl p ↦ absurd (h.2 p.0) | inr p ↦ p.1 ] in
-    rw (h.1, there) (kind_has row.kind h.0 c h.3)
+found_has row d c (inl h) = rw (absent_is row.name d h.0) h.1
+found_has row d c (inr h) = rw (there_is row.name d h.0 h.1 h.2) (kind_has row.kind h.0 c h.3)
 
 pub cell_is : (row : Row) (d : Data) (c : Cell) → cell_at row d ≡ Ok c → Has row d c
 unfolding cell_at
@@ -148,10 +167,6 @@ unfolding cell_at
 cell_fault row d e h =
     let p = or_fault_err _ e (found_or row.missing row.kind (present row.name d)) h in
     (p.0, λ c has. let q : None ≡ Some c = sym p.1 ∙ found_has row d c has in absurd cc)
-
-some_or_none : {A : Type 0} (o : Option A) → (o ≡ None) ⊎ ((x : A) × (o ≡ Some x))
-some_or_none None = inl refl
-some_or_none (Some x) = inr (x, refl)
 
 pub cell_has_none : (row : Row) (d : Data) → ((c : Cell) → ¬ (Has row d c)) → cell_at row d ≡ Err (faults.Member row.name)
 unfolding cell_at

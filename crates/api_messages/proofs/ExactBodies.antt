@@ -1,5 +1,5 @@
 -- Reading gives exactly what a body means.
-use Rattle.std.proofs.Common.{◌≡◌, ℕ, ◌<◌, ◌≤◌, List, [], length, Bool, true, false, Option, Some, None, Ok, Err, refl, sym, subst, inl, inr}
+use Rattle.std.proofs.Common.{◌≡◌, ℕ, ◌<◌, ◌≤◌, List, [], length, Bool, true, false, Option, Some, None, Result, Ok, Err, refl, sym, subst, inl, inr}
 use Rattle.std.specs.Prelude.{◌⊎◌}
 use Rattle.std.specs.Str.{IsUtf8, is_utf8}
 use Rattle.std.proofs.lemmas.Bool.{cases_lt, lt-ltb}
@@ -7,8 +7,9 @@ use Rattle.std.proofs.lemmas.Str.{IsUtf8-from_is_utf8, is_utf8-from_IsUtf8}
 use Rattle.serde_json.specs.Data.{Data, null, boolean, number, string, array, object}
 use Rattle.serde_json.specs.Read.{read}
 use Rattle.api_messages.specs.Members.{Cell, Row}
-use Rattle.api_messages.specs.Meaning.{most_bytes, IsBody, IsNoJson, IsObject, Means, IsMessage, HasFault}
-use Rattle.api_messages.specs.Reading.{◌>>=◌, value_at, is_object, as_message, object_at, message_at}
+use Rattle.job_values.specs.declared.limits.TheConstants.{LONGEST_BODY}
+use Rattle.api_messages.specs.Meaning.{IsBody, IsNoJson, IsObject, IsBodyOf, HasBodyFault, Means, IsFirstFaulty, IsMessage, HasFault}
+use Rattle.api_messages.specs.Reading.{◌>>=◌, value_at, is_object, as_message, object_at, cells_at, message_at}
 use Rattle.api_messages.specs.declared.fault.MessageFault.{MessageFault}
 use Rattle.api_messages.specs.declared.fault.MessageFault.TheVariants as faults
 use Rattle.api_messages.proofs.Bodies.{value_at-json, value_at-none}
@@ -16,9 +17,9 @@ use Rattle.api_messages.proofs.ExactRows.{bind_ok, bind_err, cells_is, cells_has
 
 -- ---- the JSON value of a body
 
-pub value_at-long : (bytes : List ℕ) → most_bytes < length bytes → value_at bytes ≡ Err faults.TooLong
+pub value_at-long : (bytes : List ℕ) → LONGEST_BODY < length bytes → value_at bytes ≡ Err faults.TooLong
 unfolding value_at
-value_at-long bytes long = rw (lt-ltb most_bytes (length bytes) long) refl
+value_at-long bytes long = rw (lt-ltb LONGEST_BODY (length bytes) long) refl
 
 utf8_test : (bytes : List ℕ) (b : Bool) → is_utf8 bytes ≡ b → (IsUtf8 bytes × (is_utf8 bytes ≡ true)) ⊎ (¬ (IsUtf8 bytes))
 utf8_test bytes true e = inl (IsUtf8-from_is_utf8 bytes e, e)
@@ -29,9 +30,9 @@ read_test None = inl refl
 read_test (Some d) = inr (d, refl)
 
 -- a body is too long, or no JSON, or has one JSON value
-pub body_cases : (bytes : List ℕ) → (most_bytes < length bytes) ⊎ (((length bytes ≤ most_bytes) × IsNoJson bytes) ⊎ ((d : Data) × IsBody bytes d))
+pub body_cases : (bytes : List ℕ) → (LONGEST_BODY < length bytes) ⊎ (((length bytes ≤ LONGEST_BODY) × IsNoJson bytes) ⊎ ((d : Data) × IsBody bytes d))
 body_cases bytes =
-    elim (cases_lt most_bytes (length bytes)) [
+    elim (cases_lt LONGEST_BODY (length bytes)) [
       | inl long ↦ inl long
       | inr short ↦
           elim (utf8_test bytes (is_utf8 bytes) refl) [
@@ -55,7 +56,7 @@ value_is bytes d e =
       | inr (inr p) ↦ let h = body_value bytes p.0 p.1 in let same : p.0 ≡ d = cc in subst (IsBody bytes) same p.1
     ]
 
-pub value_fault : (bytes : List ℕ) (e : MessageFault) → value_at bytes ≡ Err e → ((e ≡ faults.TooLong) × (most_bytes < length bytes)) ⊎ ((e ≡ faults.NotJson) × ((length bytes ≤ most_bytes) × IsNoJson bytes))
+pub value_fault : (bytes : List ℕ) (e : MessageFault) → value_at bytes ≡ Err e → ((e ≡ faults.TooLong) × (LONGEST_BODY < length bytes)) ⊎ ((e ≡ faults.NotJson) × ((length bytes ≤ LONGEST_BODY) × IsNoJson bytes))
 value_fault bytes e h =
     elim (body_cases bytes) [
       | inl long ↦ let k = value_at-long bytes long in inl (cc, long)
@@ -90,48 +91,70 @@ as_message_fault d e h =
       | inr p ↦ let k : as_message d ≡ Err faults.WrongShape = rw p.1 refl in (cc, p.0)
     ]
 
--- ---- a message
+-- ---- an object
 
-pub message_is : (rows : List Row) (bytes : List ℕ) (cells : List Cell) → message_at rows bytes ≡ Ok cells → IsMessage rows bytes cells
-unfolding message_at object_at
-message_is rows bytes cells e =
-    let p = bind_ok (value_at bytes >>= as_message) _ cells e in
+pub body_is : {A : Type 0} (reads : Data → Result A MessageFault) (means : Data → A → Type 0) (bytes : List ℕ) (x : A) → ((d : Data) → reads d ≡ Ok x → means d x) → (object_at bytes >>= reads) ≡ Ok x → IsBodyOf means bytes x
+unfolding object_at
+body_is reads means bytes x meant e =
+    let p = bind_ok (value_at bytes >>= as_message) reads x e in
     let q = bind_ok (value_at bytes) as_message p.0 p.1 in
     let s = as_message_is q.0 p.0 q.2 in
-    let r = cells_is [] rows p.0 cells p.2 in
-    (p.0, subst (IsBody bytes) s.0 (value_is bytes q.0 q.1), subst IsObject s.0 s.1, subst (Means rows p.0) (sym r.1) r.2)
+    (p.0, subst (IsBody bytes) s.0 (value_is bytes q.0 q.1), subst IsObject s.0 s.1, meant p.0 p.2)
 
-pub message_has : (rows : List Row) (bytes : List ℕ) (cells : List Cell) → IsMessage rows bytes cells → message_at rows bytes ≡ Ok cells
-unfolding message_at object_at
-message_has rows bytes cells m = rw (body_value bytes m.0 m.1, object_passes m.0 m.2) (cells_has [] rows m.0 cells m.3)
+pub object_has : (bytes : List ℕ) (d : Data) → IsBody bytes d → IsObject d → object_at bytes ≡ Ok d
+unfolding object_at
+object_has bytes d is shape = rw (body_value bytes d is) (object_passes d shape)
 
-of_value : (rows : List Row) (bytes : List ℕ) (e : MessageFault) → ((e ≡ faults.TooLong) × (most_bytes < length bytes)) ⊎ ((e ≡ faults.NotJson) × ((length bytes ≤ most_bytes) × IsNoJson bytes)) → HasFault rows bytes e
-of_value rows bytes e (inl p) = rw p.0 p.1
-of_value rows bytes e (inr p) = rw p.0 p.1
+of_value : (faulty : Data → List ℕ → Type 0) (bytes : List ℕ) (e : MessageFault) → ((e ≡ faults.TooLong) × (LONGEST_BODY < length bytes)) ⊎ ((e ≡ faults.NotJson) × ((length bytes ≤ LONGEST_BODY) × IsNoJson bytes)) → HasBodyFault faulty bytes e
+of_value faulty bytes e (inl p) = rw p.0 p.1
+of_value faulty bytes e (inr p) = rw p.0 p.1
 
-pub message_fault : (rows : List Row) (bytes : List ℕ) (e : MessageFault) → message_at rows bytes ≡ Err e → HasFault rows bytes e
-unfolding message_at object_at
-message_fault rows bytes e h =
-    elim (bind_err (value_at bytes >>= as_message) _ e h) [
+pub body_fault : {A : Type 0} (reads : Data → Result A MessageFault) (faulty : Data → List ℕ → Type 0) (bytes : List ℕ) (e : MessageFault)
+    → ((d : Data) → reads d ≡ Err e → (name : List ℕ) × (e ≡ faults.Member name) × faulty d name) → (object_at bytes >>= reads) ≡ Err e → HasBodyFault faulty bytes e
+unfolding object_at
+body_fault reads faulty bytes e told h =
+    elim (bind_err (value_at bytes >>= as_message) reads e h) [
       | inl early ↦
           elim (bind_err (value_at bytes) as_message e early) [
-            | inl first ↦ of_value rows bytes e (value_fault bytes e first)
+            | inl first ↦ of_value faulty bytes e (value_fault bytes e first)
             | inr p ↦ let s = as_message_fault p.0 e p.2 in rw s.0 (p.0, value_is bytes p.0 p.1, s.1)
           ]
       | inr p ↦
           let q = bind_ok (value_at bytes) as_message p.0 p.1 in
           let s = as_message_is q.0 p.0 q.2 in
-          let f = cells_fault [] rows p.0 e p.2 in
+          let f = told p.0 p.2 in
           rw f.1 (p.0, subst (IsBody bytes) s.0 (value_is bytes q.0 q.1), subst IsObject s.0 s.1, f.2)
     ]
 
 not_object : (d : Data) → ¬ (IsObject d) → as_message d ≡ Err faults.WrongShape
 not_object d h = elim (object_test d) [ inl p ↦ absurd (h p.0) | inr p ↦ rw p.1 refl ]
 
+pub body_has_fault : {A : Type 0} (reads : Data → Result A MessageFault) (faulty : Data → List ℕ → Type 0) (bytes : List ℕ) (e : MessageFault)
+    → ((d : Data) (name : List ℕ) → faulty d name → reads d ≡ Err (faults.Member name)) → HasBodyFault faulty bytes e → (object_at bytes >>= reads) ≡ Err e
+unfolding object_at
+body_has_fault reads faulty bytes faults.TooLong told h = rw (value_at-long bytes h) refl
+body_has_fault reads faulty bytes faults.NotJson told h = rw (value_at-none bytes h.0 h.1) refl
+body_has_fault reads faulty bytes faults.WrongShape told h = rw (body_value bytes h.0 h.1, not_object h.0 h.2) refl
+body_has_fault reads faulty bytes (faults.Member which) told h = rw (body_value bytes h.0 h.1, object_passes h.0 h.2) (told h.0 which h.3)
+body_has_fault reads faulty bytes faults.NoMemory told h = absurd h
+
+-- ---- a message
+
+own_is : (rows : List Row) (d : Data) (cells : List Cell) → cells_at rows d ≡ Ok cells → Means rows d cells
+own_is rows d cells e = let r = cells_is [] rows d cells e in subst (Means rows d) (sym r.1) r.2
+
+pub message_is : (rows : List Row) (bytes : List ℕ) (cells : List Cell) → message_at rows bytes ≡ Ok cells → IsMessage rows bytes cells
+unfolding message_at
+message_is rows bytes cells e = body_is (cells_at rows) (Means rows) bytes cells (λ d. own_is rows d cells) e
+
+pub message_has : (rows : List Row) (bytes : List ℕ) (cells : List Cell) → IsMessage rows bytes cells → message_at rows bytes ≡ Ok cells
+unfolding message_at
+message_has rows bytes cells m = rw (object_has bytes m.0 m.1 m.2) (cells_has [] rows m.0 cells m.3)
+
+pub message_fault : (rows : List Row) (bytes : List ℕ) (e : MessageFault) → message_at rows bytes ≡ Err e → HasFault rows bytes e
+unfolding message_at
+message_fault rows bytes e h = body_fault (cells_at rows) (IsFirstFaulty rows) bytes e (λ d. cells_fault [] rows d e) h
+
 pub message_has_fault : (rows : List Row) (bytes : List ℕ) (e : MessageFault) → HasFault rows bytes e → message_at rows bytes ≡ Err e
-unfolding message_at object_at
-message_has_fault rows bytes faults.TooLong h = rw (value_at-long bytes h) refl
-message_has_fault rows bytes faults.NotJson h = rw (value_at-none bytes h.0 h.1) refl
-message_has_fault rows bytes faults.WrongShape h = rw (body_value bytes h.0 h.1, not_object h.0 h.2) refl
-message_has_fault rows bytes (faults.Member which) h = rw (body_value bytes h.0 h.1, object_passes h.0 h.2) (cells_has_fault [] rows h.0 which h.3)
-message_has_fault rows bytes faults.NoMemory h = absurd h
+unfolding message_at
+message_has_fault rows bytes e h = body_has_fault (cells_at rows) (IsFirstFaulty rows) bytes e (cells_has_fault [] rows) h

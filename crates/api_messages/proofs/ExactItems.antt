@@ -5,20 +5,18 @@ use Rattle.std.proofs.lemmas.Bool.{cases_lt, le-ltb, lt-ltb}
 use Rattle.serde_json.specs.Data.{Data, null, boolean, number, string, array, object, Items, no_items, item}
 use Rattle.serde_json.specs.View.{items_of}
 use Rattle.api_messages.specs.Members.{Cell}
-use Rattle.api_messages.specs.Tables.{item_rows}
-use Rattle.api_messages.specs.Meaning.{most_bytes, most_items, IsBody, IsNoJson, IsArray, AreObjects, Means, MeansAll, IsFirstFaulty, IsFirstFaultyItem, IsCallback, HasCallbackFault}
-use Rattle.api_messages.specs.Reading.{◌>>=◌, value_at, cells_at, list_of, all_objects, items_from, items_at, array_in, results_in, callbacks_at}
+use Rattle.job_values.specs.declared.limits.TheConstants.{LONGEST_BODY}
+use Rattle.api_messages.specs.Meaning.{most_items, IsBody, IsNoJson, IsArray, IsBodyOf, HasBodyFault, AreObjects, MeansItem, MeansAll, IsItemFault, IsFirstFaultyItem, IsCallback, HasCallbackFault}
+use Rattle.api_messages.specs.Reading.{◌>>=◌, value_at, item_in, one_item_at, list_of, all_objects, items_from, items_at, array_in, results_in, callbacks_at}
 use Rattle.api_messages.specs.declared.fault.MessageFault.{MessageFault}
 use Rattle.api_messages.specs.declared.fault.MessageFault.TheVariants as faults
 use Rattle.api_messages.proofs.Bodies.{value_at-none}
 use Rattle.api_messages.proofs.Items.{list_of-items_of, first, no_item}
-use Rattle.api_messages.proofs.ExactRows.{bind_ok, bind_err, cells_is, cells_has, cells_fault, cells_has_fault}
-use Rattle.api_messages.proofs.ExactBodies.{value_at-long, body_value, value_is, value_fault, object_test}
+use Rattle.api_messages.proofs.ExactRows.{bind_ok, bind_err}
+use Rattle.api_messages.proofs.ExactOneItem.{item_is, item_has, item_fault, item_has_fault}
+use Rattle.api_messages.proofs.ExactBodies.{value_at-long, body_value, value_is, value_fault, object_test, object_has, body_is, body_fault, body_has_fault}
 
 -- ---- the items
-
-own_is : (d : Data) (cells : List Cell) → cells_at item_rows d ≡ Ok cells → Means item_rows d cells
-own_is d cells e = let r = cells_is [] item_rows d cells e in subst (Means item_rows d) (sym r.1) r.2
 
 abbrev Gave : List (List Cell) → List Data → List (List Cell) → Type 0
 Gave before ds items = (own : List (List Cell)) × (items ≡ before ++ own) × MeansAll ds own
@@ -27,16 +25,16 @@ items_is : (before : List (List Cell)) (ds : List Data) (items : List (List Cell
 unfolding items_from
 items_is before [] items e = ([], (let same : before ≡ items = cc in sym same ∙ sym (append-nil before)), tt)
 items_is before (d ∷ ds) items e =
-    let p = bind_ok (cells_at item_rows d) _ items e in
+    let p = bind_ok (item_in d) _ items e in
     let q = items_is (before ++ p.0 ∷ []) ds items p.2 in
-    (p.0 ∷ q.0, q.1 ∙ append_assoc before (p.0 ∷ []) q.0, (own_is d p.0 p.1, q.2))
+    (p.0 ∷ q.0, q.1 ∙ append_assoc before (p.0 ∷ []) q.0, (item_is d p.0 p.1, q.2))
 
 items_has : (before : List (List Cell)) (ds : List Data) (own : List (List Cell)) → MeansAll ds own → items_from before ds ≡ Ok (before ++ own)
 items_has before [] [] h = rw append-nil (no_item before)
 items_has before [] (c ∷ cs) h = absurd h
 items_has before (d ∷ ds) [] h = absurd h
 items_has before (d ∷ ds) (c ∷ cs) h =
-    first before d ds c (cells_has [] item_rows d c h.0) ∙ items_has (before ++ c ∷ []) ds cs h.1 ∙ ap Ok (append_assoc before (c ∷ []) cs)
+    first before d ds c (item_has d c h.0) ∙ items_has (before ++ c ∷ []) ds cs h.1 ∙ ap Ok (append_assoc before (c ∷ []) cs)
 
 abbrev Faulty : List Data → MessageFault → Type 0
 Faulty ds e = (name : List ℕ) × (e ≡ faults.Member name) × IsFirstFaultyItem ds name
@@ -45,20 +43,20 @@ items_fault : (before : List (List Cell)) (ds : List Data) (e : MessageFault) �
 unfolding items_from
 items_fault before [] e h = absurd cc
 items_fault before (d ∷ ds) e h =
-    elim (bind_err (cells_at item_rows d) _ e h) [
-      | inl here ↦ let p = cells_fault [] item_rows d e here in (p.0, p.1, ([], ds, d, [], refl, tt, p.2))
+    elim (bind_err (item_in d) _ e h) [
+      | inl here ↦ let p = item_fault d e here in (p.0, p.1, ([], ds, d, [], refl, tt, p.2))
       | inr later ↦
           let q = items_fault (before ++ later.0 ∷ []) ds e later.2 in
           let f = q.2 in
-          (q.0, q.1, (d ∷ f.0, f.1, f.2, later.0 ∷ f.3, ap (λ (xs : List Data). d ∷ xs) f.4, (own_is d later.0 later.1, f.5), f.6))
+          (q.0, q.1, (d ∷ f.0, f.1, f.2, later.0 ∷ f.3, ap (λ (xs : List Data). d ∷ xs) f.4, (item_is d later.0 later.1, f.5), f.6))
     ]
 
-fault_at : (done_items : List (List Cell)) (before after : List Data) (d : Data) (items : List (List Cell)) (name : List ℕ) → MeansAll before items → IsFirstFaulty item_rows d name → items_from done_items (before ++ d ∷ after) ≡ Err (faults.Member name)
+fault_at : (done_items : List (List Cell)) (before after : List Data) (d : Data) (items : List (List Cell)) (name : List ℕ) → MeansAll before items → IsItemFault d name → items_from done_items (before ++ d ∷ after) ≡ Err (faults.Member name)
 unfolding items_from
-fault_at done_items [] after d [] name h f = rw (cells_has_fault [] item_rows d name f) refl
+fault_at done_items [] after d [] name h f = rw (item_has_fault d name f) refl
 fault_at done_items [] after d (c ∷ cs) name h f = absurd h
 fault_at done_items (x ∷ xs) after d [] name h f = absurd h
-fault_at done_items (x ∷ xs) after d (c ∷ cs) name h f = rw (cells_has [] item_rows x c h.0) (fault_at (done_items ++ c ∷ []) xs after d cs name h.1 f)
+fault_at done_items (x ∷ xs) after d (c ∷ cs) name h f = rw (item_has x c h.0) (fault_at (done_items ++ c ∷ []) xs after d cs name h.1 f)
 
 items_has_fault : (before : List (List Cell)) (ds : List Data) (name : List ℕ) → IsFirstFaultyItem ds name → items_from before ds ≡ Err (faults.Member name)
 items_has_fault before ds name f = rw f.4 (fault_at before f.0 f.1 f.2 f.3 name f.5 f.6)
@@ -162,6 +160,24 @@ results_fault bytes d ds e body is h =
           ]
     ]
 
+-- ---- an item alone
+
+pub alone_is : (bytes : List ℕ) (cells : List Cell) → one_item_at bytes ≡ Ok cells → IsBodyOf MeansItem bytes cells
+unfolding one_item_at
+alone_is bytes cells e = body_is item_in MeansItem bytes cells (λ d. item_is d cells) e
+
+pub alone_has : (bytes : List ℕ) (cells : List Cell) → IsBodyOf MeansItem bytes cells → one_item_at bytes ≡ Ok cells
+unfolding one_item_at
+alone_has bytes cells m = rw (object_has bytes m.0 m.1 m.2) (item_has m.0 cells m.3)
+
+pub alone_fault : (bytes : List ℕ) (e : MessageFault) → one_item_at bytes ≡ Err e → HasBodyFault IsItemFault bytes e
+unfolding one_item_at
+alone_fault bytes e h = body_fault item_in IsItemFault bytes e (λ d. item_fault d e) h
+
+pub alone_has_fault : (bytes : List ℕ) (e : MessageFault) → HasBodyFault IsItemFault bytes e → one_item_at bytes ≡ Err e
+unfolding one_item_at
+alone_has_fault bytes e h = body_has_fault item_in IsItemFault bytes e item_has_fault h
+
 -- ---- a callback
 
 pub callback_is : (bytes : List ℕ) (items : List (List Cell)) → callbacks_at bytes ≡ Ok items → IsCallback bytes items
@@ -176,7 +192,7 @@ pub callback_has : (bytes : List ℕ) (items : List (List Cell)) → IsCallback 
 unfolding callbacks_at
 callback_has bytes items m = rw (body_value bytes m.0 m.2, array_has m.0 m.1 m.3) (results_pass m.1 m.4 m.5 ∙ items_has [] m.1 items m.6)
 
-of_value : (bytes : List ℕ) (e : MessageFault) → ((e ≡ faults.TooLong) × (most_bytes < length bytes)) ⊎ ((e ≡ faults.NotJson) × ((length bytes ≤ most_bytes) × IsNoJson bytes)) → HasCallbackFault bytes e
+of_value : (bytes : List ℕ) (e : MessageFault) → ((e ≡ faults.TooLong) × (LONGEST_BODY < length bytes)) ⊎ ((e ≡ faults.NotJson) × ((length bytes ≤ LONGEST_BODY) × IsNoJson bytes)) → HasCallbackFault bytes e
 of_value bytes e (inl p) = rw p.0 (inl p.1)
 of_value bytes e (inr p) = rw p.0 p.1
 

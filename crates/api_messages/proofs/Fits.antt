@@ -1,12 +1,12 @@
 -- What is read is within the limits of its rows.
-use Rattle.std.proofs.Common.{◌≡◌, ℕ, ◌≤◌, ℤ, pos, ◌≤ℤ◌, List, [], ◌∷◌, length, Option, Some, None, Result, Ok, Err, refl, sym, subst, inl, inr, arith}
-use Rattle.std.specs.Prelude.{◌⊎◌, IfOk}
+use Rattle.std.proofs.Common.{◌≡◌, ℤ, pos, ◌≤ℤ◌, List, [], ◌∷◌, Option, Some, None, Result, Ok, Err, refl, sym, subst, inl, inr, arith}
+use Rattle.std.specs.Prelude.{IfOk}
 use Rattle.std.specs.Int.{int_max}
 use Rattle.std.proofs.lemmas.Int.{ints}
 use Rattle.std.proofs.lemmas.Bool.Decides.{nat_tests}
 use Rattle.std.proofs.lemmas.Option.{same_Some}
 use Rattle.serde_json.specs.Data.{Data}
-use Rattle.api_messages.specs.Members.{Cell, none, int, text, bool, value, Kind, whole, not_negative, text_within, any_text, cut_text, truth, any_value, Row}
+use Rattle.api_messages.specs.Members.{Cell, int, text, bool, Kind, whole, not_negative, text_within, any_text, cut_text, truth, any_value, Row}
 use Rattle.api_messages.specs.Tables.{run_rows, log_rows, registry_rows}
 use Rattle.api_messages.specs.Meaning.{StandsFor, Has, Means}
 use Rattle.api_messages.specs.Reading.{Gives, cells_at}

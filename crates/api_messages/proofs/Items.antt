@@ -9,18 +9,17 @@ use Rattle.serde_json.specs.View.{view, items_of, items_view}
 use Rattle.serde_json.specs.Find.{as_array}
 use Rattle.serde_json.specs.declared.value.Value.{Value}
 use Rattle.api_messages.specs.Members.{Cell}
-use Rattle.api_messages.specs.Tables.{item_rows}
-use Rattle.api_messages.specs.Reading.{Fails, cells_at, items_from, items_at, is_object, list_of, array_in, results_in}
+use Rattle.api_messages.specs.Reading.{Fails, item_in, items_from, items_at, is_object, list_of, array_in, results_in}
 use Rattle.api_messages.specs.Meaning.{most_items}
 use Rattle.api_messages.specs.declared.fault.MessageFault.{MessageFault}
 use Rattle.api_messages.specs.declared.fault.MessageFault.TheVariants.{WrongShape, TooLong}
 
 -- an item before the others
-pub first : (before : List (List Cell)) (d : Data) (ds : List Data) (cs : List Cell) → cells_at item_rows d ≡ Ok cs → items_from before (d ∷ ds) ≡ items_from (before ++ cs ∷ []) ds
+pub first : (before : List (List Cell)) (d : Data) (ds : List Data) (cs : List Cell) → item_in d ≡ Ok cs → items_from before (d ∷ ds) ≡ items_from (before ++ cs ∷ []) ds
 unfolding items_from
 first before d ds cs is = rw is refl
 
-pub first_fault : (e : MessageFault) (before : List (List Cell)) (d : Data) (ds : List Data) → Fails e (cells_at item_rows d) → Fails e (items_from before (d ∷ ds))
+pub first_fault : (e : MessageFault) (before : List (List Cell)) (d : Data) (ds : List Data) → Fails e (item_in d) → Fails e (items_from before (d ∷ ds))
 unfolding items_from
 first_fault e before d ds (inl memory) = inl memory
 first_fault e before d ds (inr is) = rw is (inr refl)
@@ -34,12 +33,12 @@ left : (values : List Value) (i : ℕ) (value : Value) → i < length values →
 left values i value h is = rw (drop_more values i value h, ← is) refl
 
 pub goes_on : (values : List Value) (i : ℕ) (value : Value) (before : List (List Cell)) (cs : List Cell) (given : Result (List (List Cell)) MessageFault)
-    → i < length values → value ≡ get_or values i value → cells_at item_rows (view value) ≡ Ok cs → items_from before (map view (drop i values)) ≡ given
+    → i < length values → value ≡ get_or values i value → item_in (view value) ≡ Ok cs → items_from before (map view (drop i values)) ≡ given
     → items_from (before ++ cs ∷ []) (map view (drop (i + 1) values)) ≡ given
 goes_on values i value before cs given h is reads so_far = sym (ap (items_from before) (left values i value h is) ∙ first before (view value) _ cs reads) ∙ so_far
 
 pub stops : (values : List Value) (i : ℕ) (value : Value) (before : List (List Cell)) (e : MessageFault) (given : Result (List (List Cell)) MessageFault)
-    → i < length values → value ≡ get_or values i value → Fails e (cells_at item_rows (view value)) → items_from before (map view (drop i values)) ≡ given → Fails e given
+    → i < length values → value ≡ get_or values i value → Fails e (item_in (view value)) → items_from before (map view (drop i values)) ≡ given → Fails e given
 stops values i value before e given h is fault so_far = rw (sym so_far, left values i value h is) (first_fault e before (view value) _ fault)
 
 pub ends : (values : List Value) (i : ℕ) (before : List (List Cell)) (given : Result (List (List Cell)) MessageFault) → length values ≤ i → items_from before (map view (drop i values)) ≡ given → given ≡ Ok before

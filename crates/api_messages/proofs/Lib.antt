@@ -12,3 +12,5 @@ pub mod ExactBodies
 pub mod ExactItems
 pub mod Values
 pub mod Fits
+mod OneItem
+mod ExactOneItem

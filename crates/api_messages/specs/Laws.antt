@@ -5,9 +5,9 @@ use Rattle.std.specs.Cmp.Lexicographic.{slice_cmp}
 use Rattle.serde_json.specs.View.{view}
 use Rattle.job_values.specs.declared.run.CallbackItem.{CallbackItem}
 use Rattle.api_messages.specs.Members.{Cell, Row}
-use Rattle.api_messages.specs.Tables.{run_rows, job_rows, log_rows, log_answer_rows, item_rows, registry_rows, return_rows, manage_rows}
-use Rattle.api_messages.specs.Meaning.{IsMessage, HasFault, IsCallback, HasCallbackFault}
-use Rattle.api_messages.specs.Reading.{message_at, callbacks_at}
+use Rattle.api_messages.specs.Tables.{run_rows, job_rows, log_rows, log_answer_rows, item_rows, result_rows, registry_rows, return_rows, manage_rows}
+use Rattle.api_messages.specs.Meaning.{IsBodyOf, HasBodyFault, IsMessage, HasFault, MeansItem, IsItemFault, IsCallback, HasCallbackFault}
+use Rattle.api_messages.specs.Reading.{message_at, one_item_at, callbacks_at}
 use Rattle.api_messages.specs.Seen.{run_cells, idle_beat_cells, kill_cells, log_cells, log_answer_cells, item_cells, registry_cells, return_cells, manage_cells}
 use Rattle.api_messages.specs.declared.fault.MessageFault.{MessageFault}
 use Rattle.api_messages.specs.declared.idle_beat.IdleBeatMessage.{IdleBeatMessage}
@@ -27,6 +27,14 @@ MessageExact = (rows : List Row) (bytes : List ℕ) (cells : List Cell) → (mes
 abbrev pub FaultExact : Type 0
 FaultExact = (rows : List Row) (bytes : List ℕ) (e : MessageFault) → (message_at rows bytes ≡ Err e) ↔ HasFault rows bytes e
 
+-- the same of a body that is one item
+abbrev pub ItemExact : Type 0
+ItemExact = (bytes : List ℕ) (cells : List Cell) → (one_item_at bytes ≡ Ok cells) ↔ IsBodyOf MeansItem bytes cells
+
+abbrev pub ItemFaultExact : Type 0
+ItemFaultExact = (bytes : List ℕ) (e : MessageFault) → (one_item_at bytes ≡ Err e) ↔ HasBodyFault IsItemFault bytes e
+
+-- and of a callback
 abbrev pub CallbackExact : Type 0
 CallbackExact = (bytes : List ℕ) (items : List (List Cell)) → (callbacks_at bytes ≡ Ok items) ↔ IsCallback bytes items
 
@@ -41,7 +49,7 @@ in_order (a ∷ b ∷ rows) = is_lt (slice_cmp nat_cmp a.name b.name) && in_orde
 
 abbrev pub TablesInOrder : Type 0
 TablesInOrder =
-    IsTrue (in_order run_rows && in_order job_rows && in_order log_rows && in_order log_answer_rows && in_order item_rows && in_order registry_rows && in_order return_rows && in_order manage_rows)
+    IsTrue (in_order run_rows && in_order job_rows && in_order log_rows && in_order log_answer_rows && in_order item_rows && in_order result_rows && in_order registry_rows && in_order return_rows && in_order manage_rows)
 
 -- messages whose rows have the same values are the same, but for where a content lies in memory
 pub record SameValues : Type 0 where

@@ -1,13 +1,14 @@
 -- Which message a JSON text means, member by member, and which fault it has where it means none.
-use Rattle.std.specs.Prelude.{◌≡◌, ◌≢◌, ◌⊎◌, ℕ, ◌≤◌, ◌<◌, ℤ, pos, ◌≤ℤ◌, List, [], ◌∷◌, ◌++◌, length, Bool, Some, None}
+use Rattle.std.specs.Prelude.{◌≡◌, ◌≢◌, ◌⊎◌, ℕ, ◌≤◌, ◌<◌, ℤ, pos, ◌≤ℤ◌, List, [], ◌∷◌, ◌++◌, codes, length, Bool, Some, None}
 use Rattle.std.specs.Str.{IsUtf8}
 use Rattle.std.specs.Int.{int_max}
 use Rattle.serde_json.specs.Data.{Num, Data, null, boolean, number, string, array, object, Members}
 use Rattle.serde_json.specs.Find.{get, as_integer}
 use Rattle.serde_json.specs.Read.{read}
 use Rattle.serde_json.specs.View.{items_of}
+use Rattle.job_values.specs.declared.limits.TheConstants.{LONGEST_BODY}
 use Rattle.api_messages.specs.Members.{Cell, int, text, bool, value, Kind, whole, not_negative, text_within, any_text, cut_text, truth, any_value, Row}
-use Rattle.api_messages.specs.Tables.{item_rows}
+use Rattle.api_messages.specs.Tables.{told_rows, place_rows, result_rows}
 use Rattle.api_messages.specs.declared.fault.MessageFault.{MessageFault}
 use Rattle.api_messages.specs.declared.fault.MessageFault.TheVariants as faults
 
@@ -52,16 +53,13 @@ abbrev pub IsFirstFaulty : List Row → Data → List ℕ → Type 0
 IsFirstFaulty rows d name =
     (before after : List Row) × (row : Row) × (cells : List Cell) × (rows ≡ before ++ row ∷ after) × Means before d cells × ((c : Cell) → ¬ (Has row d c)) × (name ≡ row.name)
 
--- the greatest body in bytes, and the most items of a callback
-abbrev pub most_bytes : ℕ
-most_bytes = 1048576
-
+-- the most items of a callback
 abbrev pub most_items : ℕ
 most_items = 1000
 
 -- the bytes are a body of this JSON value
 pub record IsBody (bytes : List ℕ) (d : Data) : Type 0 where
-  pub fits : length bytes ≤ most_bytes
+  pub fits : length bytes ≤ LONGEST_BODY
   pub utf8 : IsUtf8 bytes
   pub json : read bytes ≡ Some d
 
@@ -72,17 +70,55 @@ IsNoJson bytes = IsUtf8 bytes → read bytes ≡ None
 abbrev pub IsObject : Data → Type 0
 IsObject d = (ms : Members) × (d ≡ object ms)
 
+-- the body is an object that means these values
+abbrev pub IsBodyOf : {A : Type 0} → (Data → A → Type 0) → List ℕ → A → Type 0
+IsBodyOf means bytes given = (d : Data) × IsBody bytes d × IsObject d × means d given
+
+-- the first fault of a body that is none, where the first faulty member of an object is told
+abbrev pub HasBodyFault : (Data → List ℕ → Type 0) → List ℕ → MessageFault → Type 0
+HasBodyFault faulty bytes faults.TooLong = LONGEST_BODY < length bytes
+HasBodyFault faulty bytes faults.NotJson = (length bytes ≤ LONGEST_BODY) × IsNoJson bytes
+HasBodyFault faulty bytes faults.WrongShape = (d : Data) × IsBody bytes d × ¬ (IsObject d)
+HasBodyFault faulty bytes (faults.Member which) = (d : Data) × IsBody bytes d × IsObject d × faulty d which
+HasBodyFault faulty bytes faults.NoMemory = ⊥
+
 -- the body gives each row of the table this value
 abbrev pub IsMessage : List Row → List ℕ → List Cell → Type 0
-IsMessage rows bytes cells = (d : Data) × IsBody bytes d × IsObject d × Means rows d cells
+IsMessage rows bytes cells = IsBodyOf (Means rows) bytes cells
 
 -- the first fault of a body that is no message
 abbrev pub HasFault : List Row → List ℕ → MessageFault → Type 0
-HasFault rows bytes faults.TooLong = most_bytes < length bytes
-HasFault rows bytes faults.NotJson = (length bytes ≤ most_bytes) × IsNoJson bytes
-HasFault rows bytes faults.WrongShape = (d : Data) × IsBody bytes d × ¬ (IsObject d)
-HasFault rows bytes (faults.Member which) = (d : Data) × IsBody bytes d × IsObject d × IsFirstFaulty rows d which
-HasFault rows bytes faults.NoMemory = ⊥
+HasFault rows bytes e = HasBodyFault (IsFirstFaulty rows) bytes e
+
+-- ---- an item of a callback
+
+-- an item is of the older form: it has no handleCode, and has this executeResult
+pub record IsOlder (d result : Data) : Type 0 where
+  pub no_code : IsMissing (codes "handleCode") d
+  pub is : get (codes "executeResult") d ≡ Some result
+  pub some : result ≢ null
+
+-- an executeResult gives this code and this text
+abbrev pub MeansResult : Data → List Cell → Type 0
+MeansResult result told = IsObject result × Means result_rows result told
+
+-- an item gives this code and this text
+abbrev pub Tells : Data → List Cell → Type 0
+Tells d told = Means told_rows d told ⊎ ((result : Data) × IsOlder d result × MeansResult result told)
+
+-- an item gives these values: its code and its text, and then which log it is of
+abbrev pub MeansItem : Data → List Cell → Type 0
+MeansItem d cells = (told place : List Cell) × Tells d told × Means place_rows d place × (cells ≡ told ++ place)
+
+-- an item gives no code and text, at this member: its executeResult, where it is of the older form
+abbrev pub IsToldFault : Data → List ℕ → Type 0
+IsToldFault d name =
+    (((result : Data) → ¬ (IsOlder d result)) × IsFirstFaulty told_rows d name)
+    ⊎ ((result : Data) × IsOlder d result × ((told : List Cell) → ¬ (MeansResult result told)) × (name ≡ codes "executeResult"))
+
+-- the first faulty member of an item
+abbrev pub IsItemFault : Data → List ℕ → Type 0
+IsItemFault d name = IsToldFault d name ⊎ (((told : List Cell) × Tells d told) × IsFirstFaulty place_rows d name)
 
 -- ---- callbacks
 
@@ -94,16 +130,16 @@ abbrev pub AreObjects : List Data → Type 0
 AreObjects [] = Unit {0}
 AreObjects (d ∷ ds) = IsObject d × AreObjects ds
 
--- each item gives each row its value
+-- each item gives these values
 abbrev pub MeansAll : List Data → List (List Cell) → Type 0
 MeansAll [] [] = Unit {0}
-MeansAll (d ∷ ds) (cells ∷ items) = Means item_rows d cells × MeansAll ds items
+MeansAll (d ∷ ds) (cells ∷ items) = MeansItem d cells × MeansAll ds items
 MeansAll _ _ = ⊥
 
 -- the first item with a fault has it at this member
 abbrev pub IsFirstFaultyItem : List Data → List ℕ → Type 0
 IsFirstFaultyItem ds name =
-    (before after : List Data) × (d : Data) × (items : List (List Cell)) × (ds ≡ before ++ d ∷ after) × MeansAll before items × IsFirstFaulty item_rows d name
+    (before after : List Data) × (d : Data) × (items : List (List Cell)) × (ds ≡ before ++ d ∷ after) × MeansAll before items × IsItemFault d name
 
 abbrev pub IsCallback : List ℕ → List (List Cell) → Type 0
 IsCallback bytes items =
@@ -112,8 +148,8 @@ IsCallback bytes items =
 -- the first fault of a body that is no callback
 abbrev pub HasCallbackFault : List ℕ → MessageFault → Type 0
 HasCallbackFault bytes faults.TooLong =
-    (most_bytes < length bytes) ⊎ ((d : Data) × (ds : List Data) × IsBody bytes d × IsArray d ds × AreObjects ds × (most_items < length ds))
-HasCallbackFault bytes faults.NotJson = (length bytes ≤ most_bytes) × IsNoJson bytes
+    (LONGEST_BODY < length bytes) ⊎ ((d : Data) × (ds : List Data) × IsBody bytes d × IsArray d ds × AreObjects ds × (most_items < length ds))
+HasCallbackFault bytes faults.NotJson = (length bytes ≤ LONGEST_BODY) × IsNoJson bytes
 HasCallbackFault bytes faults.WrongShape = (d : Data) × IsBody bytes d × ¬ ((ds : List Data) × IsArray d ds × AreObjects ds)
 HasCallbackFault bytes (faults.Member which) =
     (d : Data) × (ds : List Data) × IsBody bytes d × IsArray d ds × AreObjects ds × (length ds ≤ most_items) × IsFirstFaultyItem ds which

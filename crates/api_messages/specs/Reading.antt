@@ -1,5 +1,5 @@
 -- Reading a message from its bytes, with the first fault that is met.
-use Rattle.std.specs.Prelude.{◌≡◌, ◌⊎◌, ℕ, ℤ, pos, List, [], ◌∷◌, ◌++◌, length, take, Bool, ◌&&◌, if◌then◌else◌, nat_lt, nat_le, int_le, Option, Some, None, option_map, option_and_then, is_some, Result, Ok, Err}
+use Rattle.std.specs.Prelude.{◌≡◌, ◌⊎◌, ℕ, ℤ, pos, List, [], ◌∷◌, ◌++◌, codes, length, take, Bool, ◌&&◌, if◌then◌else◌, nat_lt, nat_le, int_le, Option, Some, None, option_map, option_and_then, is_some, Result, Ok, Err}
 use Rattle.std.specs.Int.{int_max}
 use Rattle.std.specs.List.{list_all}
 use Rattle.std.specs.Str.{is_utf8}
@@ -8,8 +8,9 @@ use Rattle.serde_json.specs.Data.{Data, Items, no_items, item}
 use Rattle.serde_json.specs.Find.{get, as_null, as_number, as_integer, as_str, as_bool, as_array, as_object}
 use Rattle.serde_json.specs.Read.{read}
 use Rattle.api_messages.specs.Members.{Cell, int, text, bool, value, Kind, whole, not_negative, text_within, any_text, cut_text, truth, any_value, Row}
-use Rattle.api_messages.specs.Meaning.{most_bytes, most_items}
-use Rattle.api_messages.specs.Tables.{item_rows}
+use Rattle.job_values.specs.declared.limits.TheConstants.{LONGEST_BODY}
+use Rattle.api_messages.specs.Meaning.{most_items}
+use Rattle.api_messages.specs.Tables.{told_rows, place_rows, result_rows}
 use Rattle.api_messages.specs.declared.fault.MessageFault.{MessageFault}
 use Rattle.api_messages.specs.declared.fault.MessageFault.TheVariants as faults
 
@@ -91,7 +92,7 @@ abbrev pub json_at : List ℕ → Option Data
 json_at bytes = if is_utf8 bytes then read bytes else None
 
 unfoldable pub value_at : List ℕ → Result Data MessageFault
-value_at bytes = if nat_lt most_bytes (length bytes) then Err faults.TooLong else or_fault faults.NotJson (json_at bytes)
+value_at bytes = if nat_lt LONGEST_BODY (length bytes) then Err faults.TooLong else or_fault faults.NotJson (json_at bytes)
 
 abbrev pub is_object : Data → Bool
 is_object d = is_some (as_object d)
@@ -119,11 +120,47 @@ list_of (item d ds) = d ∷ list_of ds
 abbrev pub all_objects : List Data → Bool
 all_objects ds = list_all is_object ds
 
+-- the code and the text of an executeResult, which is faulty as a whole
+abbrev pub whole_result : Result (List Cell) MessageFault → Result (List Cell) MessageFault
+whole_result (Ok cells) = Ok cells
+whole_result (Err e) = Err (faults.Member (codes "executeResult"))
+
+unfoldable pub result_in : Data → Result (List Cell) MessageFault
+result_in result = whole_result (if is_object result then cells_at result_rows result else Err faults.WrongShape)
+
+-- the executeResult of an item that has no handleCode
+abbrev pub older_by : Option Data → Option Data → Option Data
+older_by (Some code) result = None
+older_by None result = result
+
+abbrev pub older_result : Data → Option Data
+older_result d = older_by (present (codes "handleCode") d) (present (codes "executeResult") d)
+
+-- the code and the text of an item, by that executeResult
+abbrev pub told_by : Option Data → Data → Result (List Cell) MessageFault
+told_by None d = cells_at told_rows d
+told_by (Some result) d = result_in result
+
+unfoldable pub told_in : Data → Result (List Cell) MessageFault
+told_in d = told_by (older_result d) d
+
+-- the values of an item
+unfoldable pub item_in : Data → Result (List Cell) MessageFault
+item_in d = do
+  told ← told_in d
+  cells_from told place_rows d
+
+-- the values of the item that a body is
+unfoldable pub one_item_at : List ℕ → Result (List Cell) MessageFault
+one_item_at bytes = do
+  d ← object_at bytes
+  item_in d
+
 -- the values of the items, behind those of the items before them
 unfoldable pub items_from : List (List Cell) → List Data → Result (List (List Cell)) MessageFault
 items_from before [] = Ok before
 items_from before (d ∷ ds) = do
-  cs ← cells_at item_rows d
+  cs ← item_in d
   items_from (before ++ cs ∷ []) ds
 
 abbrev pub items_at : List Data → Result (List (List Cell)) MessageFault
@@ -135,7 +172,7 @@ array_in d = or_fault faults.WrongShape (option_map list_of (as_array d))
 abbrev pub results_in : List Data → Result (List (List Cell)) MessageFault
 results_in ds = if all_objects ds then (if nat_lt most_items (length ds) then Err faults.TooLong else items_at ds) else Err faults.WrongShape
 
--- the values of the rows of each item
+-- the values of each item
 unfoldable pub callbacks_at : List ℕ → Result (List (List Cell)) MessageFault
 callbacks_at bytes = do
   d ← value_at bytes

@@ -4,6 +4,7 @@ use Rattle.serde_json.specs.View.{view}
 use Rattle.job_values.specs.declared.run.CallbackItem.{CallbackItem}
 use Rattle.api_messages.specs.Members.{Cell, int, text, bool, text_or_none, value_or_none}
 use Rattle.api_messages.specs.declared.idle_beat.IdleBeatMessage.{IdleBeatMessage}
+use Rattle.api_messages.specs.declared.item.Told.{Told}
 use Rattle.api_messages.specs.declared.kill.KillMessage.{KillMessage}
 use Rattle.api_messages.specs.declared.log.LogMessage.{LogMessage}
 use Rattle.api_messages.specs.declared.log_answer.LogAnswer.{LogAnswer}
@@ -39,6 +40,9 @@ log_cells m = int m.from_line_num ∷ int m.log_date_tim ∷ int (pos m.log_id) 
 
 abbrev pub log_answer_cells : LogAnswer → List Cell
 log_answer_cells m = int m.from_line_num ∷ bool m.is_end ∷ text m.log_content ∷ int m.to_line_num ∷ []
+
+abbrev pub told_cells : Told → List Cell
+told_cells m = int m.code ∷ text m.msg ∷ []
 
 abbrev pub item_cells : CallbackItem → List Cell
 item_cells m = int m.code ∷ text m.msg ∷ int (pos m.log_moment) ∷ int (pos m.log) ∷ []

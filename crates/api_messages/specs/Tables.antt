@@ -1,5 +1,5 @@
 -- The members of each message, in byte order of their names.
-use Rattle.std.specs.Prelude.{pos, negsuc, List, [], ◌∷◌, codes}
+use Rattle.std.specs.Prelude.{pos, negsuc, List, [], ◌∷◌, ◌++◌, codes}
 use Rattle.api_messages.specs.Members.{none, int, text, Kind, whole, not_negative, text_within, any_text, cut_text, truth, any_value, Row, required, optional}
 
 -- the numbers of 31 bits, of 32 bits with a sign, and the ids of jobs and of logs
@@ -57,13 +57,27 @@ log_answer_rows =
     ∷ required (codes "toLineNum") signed
     ∷ []
 
--- of each item of a callback
-abbrev pub item_rows : List Row
-item_rows =
+-- of each item of a callback: its code and its text, and then which log it is of
+abbrev pub told_rows : List Row
+told_rows =
     required (codes "handleCode") signed
     ∷ optional (codes "handleMsg") (cut_text 15000) (text [])
-    ∷ optional (codes "logDateTim") milliseconds (int (pos 0))
+    ∷ []
+
+abbrev pub place_rows : List Row
+place_rows =
+    optional (codes "logDateTim") milliseconds (int (pos 0))
     ∷ required (codes "logId") log_number
+    ∷ []
+
+abbrev pub item_rows : List Row
+item_rows = told_rows ++ place_rows
+
+-- of executeResult, where an item of the older form has its code and its text
+abbrev pub result_rows : List Row
+result_rows =
+    required (codes "code") signed
+    ∷ optional (codes "msg") (cut_text 15000) (text [])
     ∷ []
 
 -- of registry and of registryRemove

@@ -3,17 +3,15 @@ ghost use Rattle.serde_json.specs.View.{view};
 ghost use Rattle.api_messages.specs.Reading.{Gives, value_at, object_at};
 
 use crate::fault::MessageFault;
+use job_values::limits::LONGEST_BODY;
 use serde_json::Value;
 use std::alloc::Global;
-
-/// The greatest body, in bytes.
-pub const MOST_BYTES: usize = 1_048_576;
 
 #[tactic(auto, unfolding(crate::specs::Reading::value_at))]
 pub(crate) fn value_of(alloc: Global, bytes: &[u8]) -> Result<Value, MessageFault>
     ensures { Gives view result (value_at bytes.now) }
 {
-    if bytes.len() > MOST_BYTES {
+    if bytes.len() > LONGEST_BODY {
         return Err(MessageFault::TooLong);
     }
     match Value::from_slice(alloc, bytes) {

@@ -2,7 +2,7 @@
 ghost use Rattle.std.specs.Prelude.{◌≡◌, ◌≤◌, length, Ok, IfOk};
 ghost use Rattle.serde_json.specs.View.{view};
 ghost use Rattle.serde_json.specs.Written.{compact_text};
-ghost use Rattle.api_messages.specs.Meaning.{most_bytes};
+ghost use Rattle.job_values.specs.declared.limits.TheConstants.{LONGEST_BODY};
 ghost use Rattle.api_messages.specs.Tables.{job_rows};
 ghost use Rattle.api_messages.specs.Reading.{Gives, cells_at, message_at};
 ghost use Rattle.api_messages.specs.Seen.{kill_cells};
@@ -51,7 +51,7 @@ fn kill_value(alloc: Global, message: &KillMessage) -> Result<Value, AllocError>
 pub fn write_kill(alloc: Global, message: &KillMessage) -> Result<Seq<u8>, NoMemory>
     ensures text { IfOk result
         (λ b. b ≡ compact_text (object_of job_rows (kill_cells message.now))) }
-    ensures reads { IfOk result (λ b. length b ≤ most_bytes
+    ensures reads { IfOk result (λ b. length b ≤ LONGEST_BODY
         → message_at job_rows b ≡ Ok (kill_cells message.now)) }
 {
     let Ok(value) = kill_value(alloc, message) else {

@@ -1,5 +1,7 @@
 //! What holds of every body and every message.
-ghost use Rattle.api_messages.specs.Laws.{MessageExact, FaultExact, CallbackExact, CallbackFaultExact, TablesInOrder, SameValues};
+ghost use Rattle.std.specs.Prelude.{◌≡◌};
+ghost use Rattle.job_values.specs.declared.limits.TheConstants.{LONGEST_BODY};
+ghost use Rattle.api_messages.specs.Laws.{MessageExact, FaultExact, ItemExact, ItemFaultExact, CallbackExact, CallbackFaultExact, TablesInOrder, SameValues};
 
 /// Reading a body gives exactly the message that the body means member by member, and each refusal
 /// is exactly the first fault. This holds of every table of members.
@@ -8,8 +10,10 @@ pub fn law_messages()
     ensures fault { FaultExact }
 {}
 
-/// The same of callbacks.
+/// The same of callbacks, and of one item alone.
 pub fn law_callbacks()
+    ensures item { ItemExact }
+    ensures item_fault { ItemFaultExact }
     ensures callback { CallbackExact }
     ensures fault { CallbackFaultExact }
 {}
@@ -23,4 +27,9 @@ pub fn law_tables()
 /// written.
 pub fn law_values()
     ensures { SameValues }
+{}
+
+/// The numbers that the definitions cite.
+pub fn law_numbers()
+    ensures { LONGEST_BODY ≡ 1048576 }
 {}

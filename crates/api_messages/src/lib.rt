@@ -5,6 +5,7 @@ mod body;
 mod callbacks;
 mod fault;
 mod idle_beat;
+mod item;
 mod kill;
 mod laws;
 mod log;
@@ -18,14 +19,12 @@ mod text_member;
 mod token;
 mod written;
 
-pub use body::MOST_BYTES;
-pub use callbacks::{
-    MOST_ITEMS, MOST_RESULT_BYTES, read_callbacks, read_item, write_callbacks, write_item,
-};
+pub use callbacks::{MOST_ITEMS, read_callbacks, write_callbacks};
 pub use fault::MessageFault;
 pub use idle_beat::{IdleBeatMessage, read_idle_beat, write_idle_beat};
+pub use item::{read_item, write_item};
 pub use kill::{KillMessage, read_kill, write_kill};
-pub use laws::{law_callbacks, law_messages, law_tables, law_values};
+pub use laws::{law_callbacks, law_messages, law_numbers, law_tables, law_values};
 pub use log::{LogMessage, read_log, write_log};
 pub use log_answer::{LogAnswer, read_log_answer, write_log_answer};
 pub use manage::{ManageMessage, read_manage_body, write_manage_body};

@@ -2,7 +2,7 @@
 ghost use Rattle.std.specs.Prelude.{◌≡◌, ◌≤◌, length, Ok, IfOk};
 ghost use Rattle.serde_json.specs.View.{view};
 ghost use Rattle.serde_json.specs.Written.{compact_text};
-ghost use Rattle.api_messages.specs.Meaning.{most_bytes};
+ghost use Rattle.job_values.specs.declared.limits.TheConstants.{LONGEST_BODY};
 ghost use Rattle.api_messages.specs.Tables.{log_rows};
 ghost use Rattle.api_messages.specs.Reading.{Gives, cells_at, message_at};
 ghost use Rattle.api_messages.specs.Seen.{log_cells};
@@ -63,7 +63,7 @@ fn log_value(alloc: Global, message: &LogMessage) -> Result<Value, AllocError>
 pub fn write_log(alloc: Global, message: &LogMessage) -> Result<Seq<u8>, NoMemory>
     ensures text { IfOk result
         (λ b. b ≡ compact_text (object_of log_rows (log_cells message.now))) }
-    ensures reads { IfOk result (λ b. length b ≤ most_bytes → Fit log_rows (log_cells message.now)
+    ensures reads { IfOk result (λ b. length b ≤ LONGEST_BODY → Fit log_rows (log_cells message.now)
         → message_at log_rows b ≡ Ok (log_cells message.now)) }
 {
     let Ok(value) = log_value(alloc, message) else {

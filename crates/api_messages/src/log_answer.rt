@@ -2,7 +2,7 @@
 ghost use Rattle.std.specs.Prelude.{◌≡◌, ◌≤◌, length, Ok, IfOk};
 ghost use Rattle.serde_json.specs.View.{view};
 ghost use Rattle.serde_json.specs.Written.{compact_text};
-ghost use Rattle.api_messages.specs.Meaning.{most_bytes};
+ghost use Rattle.job_values.specs.declared.limits.TheConstants.{LONGEST_BODY};
 ghost use Rattle.api_messages.specs.Tables.{log_answer_rows};
 ghost use Rattle.api_messages.specs.Reading.{Gives, cells_at, message_at};
 ghost use Rattle.api_messages.specs.Seen.{log_answer_cells};
@@ -71,7 +71,7 @@ fn log_answer_value(alloc: Global, message: &LogAnswer) -> Result<Value, AllocEr
 pub fn write_log_answer(alloc: Global, message: &LogAnswer) -> Result<Seq<u8>, NoMemory>
     ensures text { IfOk result
         (λ b. b ≡ compact_text (object_of log_answer_rows (log_answer_cells message.now))) }
-    ensures reads { IfOk result (λ b. length b ≤ most_bytes
+    ensures reads { IfOk result (λ b. length b ≤ LONGEST_BODY
         → message_at log_answer_rows b ≡ Ok (log_answer_cells message.now)) }
 {
     let Ok(value) = log_answer_value(alloc, message) else {

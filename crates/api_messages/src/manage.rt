@@ -2,7 +2,7 @@
 ghost use Rattle.std.specs.Prelude.{◌≡◌, ◌≤◌, length, Ok, IfOk};
 ghost use Rattle.serde_json.specs.View.{view};
 ghost use Rattle.serde_json.specs.Written.{compact_text};
-ghost use Rattle.api_messages.specs.Meaning.{most_bytes};
+ghost use Rattle.job_values.specs.declared.limits.TheConstants.{LONGEST_BODY};
 ghost use Rattle.api_messages.specs.Tables.{manage_rows};
 ghost use Rattle.api_messages.specs.Reading.{Gives, cells_at, message_at};
 ghost use Rattle.api_messages.specs.Seen.{manage_cells};
@@ -52,7 +52,7 @@ fn manage_value(alloc: Global, message: &ManageMessage) -> Result<Value, AllocEr
 pub fn write_manage_body(alloc: Global, message: &ManageMessage) -> Result<Seq<u8>, NoMemory>
     ensures text { IfOk result
         (λ b. b ≡ compact_text (object_of manage_rows (manage_cells message.now))) }
-    ensures reads { IfOk result (λ b. length b ≤ most_bytes
+    ensures reads { IfOk result (λ b. length b ≤ LONGEST_BODY
         → message_at manage_rows b ≡ Ok (manage_cells message.now)) }
 {
     let Ok(value) = manage_value(alloc, message) else {

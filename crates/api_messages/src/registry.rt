@@ -2,7 +2,7 @@
 ghost use Rattle.std.specs.Prelude.{◌≡◌, ◌≤◌, length, Ok, IfOk};
 ghost use Rattle.serde_json.specs.View.{view};
 ghost use Rattle.serde_json.specs.Written.{compact_text};
-ghost use Rattle.api_messages.specs.Meaning.{most_bytes};
+ghost use Rattle.job_values.specs.declared.limits.TheConstants.{LONGEST_BODY};
 ghost use Rattle.api_messages.specs.Tables.{registry_rows};
 ghost use Rattle.api_messages.specs.Reading.{Gives, cells_at, message_at};
 ghost use Rattle.api_messages.specs.Seen.{registry_cells};
@@ -64,7 +64,7 @@ fn registry_value(alloc: Global, message: &RegistryMessage) -> Result<Value, All
 pub fn write_registry(alloc: Global, message: &RegistryMessage) -> Result<Seq<u8>, NoMemory>
     ensures text { IfOk result
         (λ b. b ≡ compact_text (object_of registry_rows (registry_cells message.now))) }
-    ensures reads { IfOk result (λ b. length b ≤ most_bytes
+    ensures reads { IfOk result (λ b. length b ≤ LONGEST_BODY
         → Fit registry_rows (registry_cells message.now)
         → message_at registry_rows b ≡ Ok (registry_cells message.now)) }
 {

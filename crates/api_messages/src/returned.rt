@@ -2,7 +2,7 @@
 ghost use Rattle.std.specs.Prelude.{◌≡◌, ◌≤◌, length, false, Ok, IfOk, OnOk, codes, option_map};
 ghost use Rattle.serde_json.specs.View.{view, members_view};
 ghost use Rattle.serde_json.specs.Written.{compact_text, has_float};
-ghost use Rattle.api_messages.specs.Meaning.{most_bytes};
+ghost use Rattle.job_values.specs.declared.limits.TheConstants.{LONGEST_BODY};
 ghost use Rattle.api_messages.specs.Tables.{return_rows};
 ghost use Rattle.api_messages.specs.Reading.{Gives, cells_at, message_at};
 ghost use Rattle.api_messages.specs.Seen.{return_cells};
@@ -104,7 +104,7 @@ pub fn write_return(alloc: Global, message: &ReturnMessage) -> Result<Seq<u8>, N
     ensures text { IfOk result
         (λ b. has_float (object_of return_rows (return_cells message.now)) ≡ false
         → b ≡ compact_text (object_of return_rows (return_cells message.now))) }
-    ensures reads { IfOk result (λ b. length b ≤ most_bytes
+    ensures reads { IfOk result (λ b. length b ≤ LONGEST_BODY
         → Fit return_rows (return_cells message.now)
         → message_at return_rows b ≡ Ok (return_cells message.now)) }
 {

@@ -2,7 +2,7 @@
 ghost use Rattle.std.specs.Prelude.{◌≡◌, ◌≤◌, length, Ok, IfOk};
 ghost use Rattle.serde_json.specs.View.{view};
 ghost use Rattle.serde_json.specs.Written.{compact_text};
-ghost use Rattle.api_messages.specs.Meaning.{most_bytes};
+ghost use Rattle.job_values.specs.declared.limits.TheConstants.{LONGEST_BODY};
 ghost use Rattle.api_messages.specs.Tables.{run_rows};
 ghost use Rattle.api_messages.specs.Reading.{Gives, cells_at, message_at};
 ghost use Rattle.api_messages.specs.Seen.{run_cells};
@@ -113,7 +113,7 @@ fn run_value(alloc: Global, message: &RunMessage) -> Result<Value, AllocError>
 pub fn write_run(alloc: Global, message: &RunMessage) -> Result<Seq<u8>, NoMemory>
     ensures text { IfOk result
         (λ b. b ≡ compact_text (object_of run_rows (run_cells message.now))) }
-    ensures reads { IfOk result (λ b. length b ≤ most_bytes → Fit run_rows (run_cells message.now)
+    ensures reads { IfOk result (λ b. length b ≤ LONGEST_BODY → Fit run_rows (run_cells message.now)
         → message_at run_rows b ≡ Ok (run_cells message.now)) }
 {
     let Ok(value) = run_value(alloc, message) else {

@@ -13,6 +13,10 @@ use job_values::NoMemory;
 use outside::{Link, send};
 use std::alloc::Global;
 
+/// How many bytes the head of an answer has at most, and that of a request beside its host, its paths and
+/// its token.
+const HEAD_ROOM: usize = 192;
+
 /// A text without bytes, with room for so many.
 fn text_with_room(alloc: Global, room: usize) -> Result<Vec<u8>, NoMemory>
     ensures { IfOk result (λ t. t.items ≡ []) }
@@ -39,7 +43,7 @@ fn put_number(text: &mut Vec<u8>, number: usize) -> Result<(), NoMemory>
 fn answer_text(alloc: Global, body: &[u8]) -> Result<Vec<u8>, NoMemory>
     ensures { IfOk result (λ t. t.items ≡ answer_head (length body.now) ++ body.now) }
 {
-    let mut text = text_with_room(alloc, body.len())?;
+    let mut text = text_with_room(alloc, body.len().saturating_add(HEAD_ROOM))?;
     put(
         &mut text,
         b"HTTP/1.1 200 OK\r\nContent-Type: application/json;charset=UTF-8\r\nContent-Length: ",
@@ -84,7 +88,13 @@ pub(crate) fn text_of_request(
 ) -> Result<Vec<u8>, NoMemory>
     ensures { IfOk result (λ t. t.items ≡ request_text (address_of parts.now.host.now parts.now.port parts.now.tail.now) path.now token.now body.now) }
 {
-    let mut text = text_with_room(alloc, body.len())?;
+    let room = HEAD_ROOM
+        .saturating_add(parts.host.len())
+        .saturating_add(parts.tail.len())
+        .saturating_add(path.len())
+        .saturating_add(token.len())
+        .saturating_add(body.len());
+    let mut text = text_with_room(alloc, room)?;
     put(&mut text, b"POST ")?;
     put_base(&mut text, parts.tail)?;
     put(&mut text, path.as_bytes())?;

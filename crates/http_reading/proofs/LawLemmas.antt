@@ -9,7 +9,7 @@ use Rattle.httparse.proofs.OpenLemmas.{line_blank, request_may_from_line}
 use Rattle.http_reading.specs.Draws.{IsOutside}
 use Rattle.http_reading.specs.Plans.{most_line, plan_of, token_of, closes, fields_of}
 use Rattle.http_reading.specs.Bodies.{ReadsBody}
-use Rattle.http_reading.specs.Requests.{Reads, HeadFault}
+use Rattle.http_reading.specs.Requests.{ReadsHead, HeadFault}
 use Rattle.http_reading.specs.Laws.{OneRequest, NoFault, NoneNoFault}
 use Rattle.http_reading.specs.declared.request.Request.{Request}
 use Rattle.http_reading.specs.declared.fault.HttpFault.{HttpFault}
@@ -32,20 +32,20 @@ one_request bytes first second rest other x y =
 whole_again : (n : ℕ) (bytes : List ℕ) (h : RequestHead) (behind : List ℕ) → ReadsRequest bytes h behind → ReadsRequest (take n bytes ++ drop n bytes) h behind
 whole_again n bytes h behind x = subst (λ t. ReadsRequest t h behind) (sym (take-append-drop n bytes)) x
 
-head_no_fault : (bytes : List ℕ) (request : Request) (rest : List ℕ) (ended : Bool) (fault : HttpFault) → Reads bytes request rest → HeadFault bytes ended fault → IsOutside fault
-head_no_fault bytes request rest ended (Ended taken) x h = absurd (h.3.none x.head x.behind x.reads.reads)
-head_no_fault bytes request rest ended BadHead x h = absurd (h (drop most_line bytes) x.head x.behind (whole_again most_line bytes x.head x.behind x.reads.reads))
-head_no_fault bytes request rest ended TooLarge x (inl h) =
-    absurd (h.none x.head (take (most_line - length (print_request x.head)) x.behind)
-    (x.reads.reads.0, ap (take most_line) x.reads.reads.1 ∙ take_past most_line (print_request x.head) x.behind x.reads.short))
-head_no_fault bytes request rest ended TooLarge x (inr h) =
-    absurd (omega (arith, x.reads.few, h.none (drop most_line bytes) x.head x.behind (whole_again most_line bytes x.head x.behind x.reads.reads)))
-head_no_fault bytes request rest ended (BadBody place) x h = absurd h
-head_no_fault bytes request rest ended LinkFault x h = inl refl
-head_no_fault bytes request rest ended NoMemory x h = inr refl
+pub head_no_fault : (bytes : List ℕ) (head : RequestHead) (behind : List ℕ) (ended : Bool) (fault : HttpFault) → ReadsHead bytes head behind → HeadFault bytes ended fault → IsOutside fault
+head_no_fault bytes head behind ended (Ended taken) x h = absurd (h.3.none head behind x.reads)
+head_no_fault bytes head behind ended BadHead x h = absurd (h (drop most_line bytes) head behind (whole_again most_line bytes head behind x.reads))
+head_no_fault bytes head behind ended TooLarge x (inl h) =
+    absurd (h.none head (take (most_line - length (print_request head)) behind)
+    (x.reads.0, ap (take most_line) x.reads.1 ∙ take_past most_line (print_request head) behind x.short))
+head_no_fault bytes head behind ended TooLarge x (inr h) =
+    absurd (omega (arith, x.few, h.none (drop most_line bytes) head behind (whole_again most_line bytes head behind x.reads)))
+head_no_fault bytes head behind ended (BadBody place) x h = absurd h
+head_no_fault bytes head behind ended LinkFault x h = inl refl
+head_no_fault bytes head behind ended NoMemory x h = inr refl
 
 pub no_fault : NoFault
-no_fault bytes request rest ended fault x (inl h) = head_no_fault bytes request rest ended fault x h
+no_fault bytes request rest ended fault x (inl h) = head_no_fault bytes x.head x.behind ended fault x.reads h
 no_fault bytes request rest ended fault x (inr h) =
     let heads = request_unique bytes x.head h.head x.behind h.behind x.reads.reads h.reads.reads in
     let plan = λ (k : RequestHead). plan_of (fields_of k.fields) in

@@ -13,3 +13,4 @@ pub mod UniqueLemmas
 pub mod LawLemmas
 pub mod BodyLemmas
 pub mod OuterLemmas
+pub mod OneFaultLemmas

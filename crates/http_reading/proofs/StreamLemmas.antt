@@ -1,8 +1,15 @@
 -- From the bytes that a call read to all that the buffer and the link have.
-use Rattle.std.proofs.Common.{◌≡◌, ℕ, Bool, true, false, List, [], ◌∷◌, ◌++◌, Option, Some, None, IfSome, MatchOption, refl, sym, ap, ◌∙◌, subst, append_assoc}
+use Rattle.std.proofs.Common.{◌≡◌, ℕ, Bool, true, false, List, [], ◌∷◌, ◌++◌, ◌||◌, length, Option, Some, None, IfSome, MatchOption, refl, sym, ap, ◌∙◌, subst, append_assoc, inl, inr}
+use Rattle.std.specs.Prelude.{IsNone}
+use Rattle.httparse.specs.Grammar.{print_request}
 use Rattle.std.specs.Io.KnownBytes.{Consumes}
 use Rattle.http_reading.specs.Draws.{Fails}
-use Rattle.http_reading.specs.Requests.{Reads, HasFault, Took, stream, TakesNone, TakesRequest, FaultOf}
+use Rattle.http_reading.specs.Requests.{Reads, HasFault, Took, stream, TakesNone, TakesRequest, FaultOf, IsEnd}
+use Rattle.http_reading.specs.Plans.{plan_of, fields_of}
+use Rattle.http_reading.specs.Bodies.{BodyFault}
+use Rattle.http_reading.specs.declared.plan.BodyPlan.{BodyPlan}
+use Rattle.http_reading.specs.declared.plan.BodyPlan.TheVariants.{Empty, Sized, Chunked, ToEnd, Bad, TooLarge as Huge}
+use Rattle.http_reading.specs.declared.fault.HttpFault.TheVariants.{Ended}
 use Rattle.http_reading.specs.declared.request.Request.{Request}
 use Rattle.http_reading.specs.declared.fault.HttpFault.{HttpFault}
 use Rattle.http_reading.proofs.GrowLemmas.{Reads-append, HasFault-append}
@@ -46,6 +53,21 @@ fault_in held bytes holds (Some xs) (Some ys) true fault grown gone last is =
 fault_in held bytes holds (Some xs) (Some ys) false fault grown gone last is =
     subst (λ t. HasFault t true fault) (sym (stream_is held bytes holds xs ys grown gone)) (HasFault-append holds ys fault is)
 
+ended_true : (bytes : List ℕ) (ended : Bool) (taken : ℕ) → HasFault bytes ended (Ended taken) → ended ≡ true
+ended_true bytes ended taken (inl h) = h.0
+ended_true bytes ended taken (inr h) = in_body (plan_of (fields_of h.head.fields)) (length (print_request h.head)) h.behind h.is where
+  in_body : (plan : BodyPlan) (start : ℕ) (behind : List ℕ) → BodyFault plan start behind ended (Ended taken) → ended ≡ true
+  in_body Empty start behind f = absurd f
+  in_body (Sized n) start behind f = f.0
+  in_body Chunked start behind f = f.is.0
+  in_body ToEnd start behind f = absurd f
+  in_body Bad start behind f = absurd f
+  in_body Huge start behind f = absurd f
+
+met_end : (a b : Bool) (ended : Bool) → b ≡ (a || ended) → ended ≡ true → b ≡ true
+met_end true b ended e is = e
+met_end false b ended e is = e ∙ is
+
 module _ {A : Type 0} {left seen taken : A → Option (List ℕ)} {met : A → Bool} {dial faults : A → ℕ} where
   -- what a call took is at the front of the stream, and the stream now is what follows it
   pub took_request : (a b : A) (held holds : List ℕ) (request : Option Request)
@@ -62,3 +84,13 @@ module _ {A : Type 0} {left seen taken : A → Option (List ℕ)} {met : A → B
       → Fails left seen taken met dial faults a b held HasFault fault → FaultOf (stream held (left a)) fault
   failed_stream a b held fault f =
       fault_in held f.draws.bytes f.holds (left a) (left b) f.ended fault f.draws.grown f.draws.gone f.draws.last f.is
+
+  -- no request and no byte come only of the end
+  pub took_none : (a b : A) (held holds : List ℕ) (request : Option Request)
+      → Took left seen taken met dial faults a b held holds request → IsNone request → met b ≡ true
+  took_none a b held holds None t none = met_end (met a) (met b) t.ended t.draws.end t.is.0
+  took_none a b held holds (Some r) t none = let never : ⊥ = cc in absurd never
+
+  pub failed_end : (a b : A) (held : List ℕ) (fault : HttpFault) → Fails left seen taken met dial faults a b held HasFault fault → IsEnd fault → met b ≡ true
+  failed_end a b held fault f is =
+      met_end (met a) (met b) f.ended f.draws.end (ended_true f.holds f.ended is.0 (subst (HasFault f.holds f.ended) is.1 f.is))

@@ -28,10 +28,10 @@ take_past n xs ys short =
 
 -- ---- chunks
 
-line_same : (bytes : List ℕ) (l k : ChunkLine) (r q : List ℕ) → Line bytes l r → Line bytes k q → (l ≡ k) × (r ≡ q)
+pub line_same : (bytes : List ℕ) (l k : ChunkLine) (r q : List ℕ) → Line bytes l r → Line bytes k q → (l ≡ k) × (r ≡ q)
 line_same bytes l k r q x y = chunk_line_unique bytes l k r q x.reads y.reads
 
-chunk_same : (bytes : List ℕ) (c d : Chunk) (m n : List ℕ) → ReadsChunk bytes c m → ReadsChunk bytes d n → (c.content ≡ d.content) × (m ≡ n)
+pub chunk_same : (bytes : List ℕ) (c d : Chunk) (m n : List ℕ) → ReadsChunk bytes c m → ReadsChunk bytes d n → (c.content ≡ d.content) × (m ≡ n)
 chunk_same bytes c d m n x y =
     let lines = line_same bytes c.line d.line (c.content ++ 13 ∷ 10 ∷ m) (d.content ++ 13 ∷ 10 ∷ n) x.line y.line in
     let parts = cut_same c.content d.content (13 ∷ 10 ∷ m) (13 ∷ 10 ∷ n) (sym x.size ∙ ap chunk_size lines.0 ∙ y.size) lines.1 in
@@ -80,14 +80,14 @@ body_same Huge bytes ended b c r q x y = absurd x
 
 -- ---- no fault
 
-no_front_line : (n : ℕ) (bytes : List ℕ) (l : ChunkLine) (r : List ℕ) → length (print_chunk_line l) ≤ n → ReadsChunkLine bytes l r → HasNoChunkLine (take n bytes) → ⊥
+pub no_front_line : (n : ℕ) (bytes : List ℕ) (l : ChunkLine) (r : List ℕ) → length (print_chunk_line l) ≤ n → ReadsChunkLine bytes l r → HasNoChunkLine (take n bytes) → ⊥
 no_front_line n bytes l r short x none =
     none l (take (n - length (print_chunk_line l)) r) (x.0, ap (take n) x.1 ∙ take_past n (print_chunk_line l) r short)
 
-first_byte : (a b : ℕ) (xs ys : List ℕ) → a ∷ xs ≡ b ∷ ys → a ≡ b
+pub first_byte : (a b : ℕ) (xs ys : List ℕ) → a ∷ xs ≡ b ∷ ys → a ≡ b
 first_byte a b xs ys e = cc
 
-tail_no_fault : (at before : ℕ) (bytes : List ℕ) (l : ChunkLine) (content more : List ℕ) (ended : Bool) (fault : HttpFault)
+pub tail_no_fault : (at before : ℕ) (bytes : List ℕ) (l : ChunkLine) (content more : List ℕ) (ended : Bool) (fault : HttpFault)
     → Line bytes l (content ++ 13 ∷ 10 ∷ more) → chunk_size l ≡ length content → before + length content ≤ 1048576
     → TailFault at before bytes ended fault → IsOutside fault
 tail_no_fault at before bytes l content more ended (Ended taken) x size few (end, is, inl h) = absurd (h.none l (content ++ 13 ∷ 10 ∷ more) x.reads)
@@ -130,7 +130,7 @@ tail_no_fault at before bytes l content more ended (BadBody place) x size few (k
 tail_no_fault at before bytes l content more ended LinkFault x size few h = inl refl
 tail_no_fault at before bytes l content more ended NoMemory x size few h = inr refl
 
-plus_none : (n : ℕ) → n + 0 ≡ n
+pub plus_none : (n : ℕ) → n + 0 ≡ n
 plus_none n = omega arith
 
 chunks_no_fault : (at before : ℕ) (bytes : List ℕ) (cs ds : List Chunk) (s t : List ℕ) (l : ChunkLine) (r : List ℕ) (ended : Bool) (fault : HttpFault)

@@ -1,6 +1,6 @@
 -- Bodies, as a head says how they are read.
 use Rattle.std.specs.Prelude.{ℕ, ◌≡◌, ◌+◌, ◌<◌, ◌≤◌, Bool, true, List, [], ◌++◌, length}
-use Rattle.http_reading.specs.Plans.{most_body}
+use Rattle.job_values.specs.declared.limits.TheConstants.{LONGEST_BODY}
 use Rattle.http_reading.specs.Chunks.{ReadsChunked, ChunkedFault}
 use Rattle.http_reading.specs.declared.plan.BodyPlan.{BodyPlan}
 use Rattle.http_reading.specs.declared.plan.BodyPlan.TheVariants.{Empty, Sized, Chunked, ToEnd, Bad, TooLarge as Huge}
@@ -13,7 +13,7 @@ abbrev pub ReadsBody : BodyPlan → List ℕ → Bool → List ℕ → List ℕ 
 ReadsBody Empty bytes ended body rest = (body ≡ []) × (bytes ≡ rest)
 ReadsBody (Sized n) bytes ended body rest = (length body ≡ n) × (bytes ≡ body ++ rest)
 ReadsBody Chunked bytes ended body rest = ReadsChunked bytes body rest
-ReadsBody ToEnd bytes ended body rest = (ended ≡ true) × (length body ≤ most_body) × (bytes ≡ body) × (rest ≡ [])
+ReadsBody ToEnd bytes ended body rest = (ended ≡ true) × (length body ≤ LONGEST_BODY) × (bytes ≡ body) × (rest ≡ [])
 ReadsBody Bad bytes ended body rest = ⊥
 ReadsBody Huge bytes ended body rest = ⊥
 
@@ -24,7 +24,7 @@ BodyFault plan start bytes ended NoMemory = Unit {0}
 BodyFault (Sized n) start bytes ended (Ended taken) =
     (ended ≡ true) × (taken ≡ start + length bytes) × (length bytes < n)
 BodyFault Chunked start bytes ended fault = ChunkedFault start bytes ended fault
-BodyFault ToEnd start bytes ended TooLarge = most_body < length bytes
+BodyFault ToEnd start bytes ended TooLarge = LONGEST_BODY < length bytes
 BodyFault Bad start bytes ended (BadBody place) = place ≡ start
 BodyFault Huge start bytes ended TooLarge = Unit {0}
 BodyFault _ start bytes ended _ = ⊥

@@ -1,7 +1,7 @@
 -- Chunks that a call has read, and the lines before them as the parser tells them.
 use Rattle.std.specs.Prelude.{ℕ, ◌≡◌, ◌≢◌, ◌+◌, ◌<◌, ◌≤◌, ◌⊎◌, Bool, true, false, List, [], ◌∷◌, ◌++◌, length, take, drop, Option, Result, Ok, Err}
 use Rattle.httparse.specs.Grammar.{ChunkLine, print_chunk_line, chunk_size, MayBecomeChunkLine, NeverHasChunkLine}
-use Rattle.http_reading.specs.Plans.{most_body}
+use Rattle.job_values.specs.declared.limits.TheConstants.{LONGEST_BODY}
 use Rattle.http_reading.specs.Draws.{Draws}
 use Rattle.http_reading.specs.Chunks.{Line, ReadsChunk, LongLine, BadLine, TailFault}
 use Rattle.http_reading.specs.declared.size_line.SizeLine.{SizeLine}
@@ -101,7 +101,7 @@ pub record ChunkRead {A : Type 0} (left seen taken : A → Option (List ℕ)) (m
   pub draws : Draws left seen taken met dial faults before now held holds ended
   pub content : List ℕ
   pub added : whole ≡ body ++ content
-  pub few : length whole ≤ most_body
+  pub few : length whole ≤ LONGEST_BODY
   pub inside : read.end ≤ length holds
   pub is : ReadsOne read.last (drop at holds) content (drop read.end holds)
 

@@ -2,7 +2,8 @@
 -- behind a size is ignored, and no fields stand at the end.
 use Rattle.std.specs.Prelude.{ℕ, ◌≡◌, ◌≢◌, ◌+◌, ◌<◌, ◌≤◌, ◌⊎◌, Bool, true, List, [], ◌∷◌, ◌++◌, length, take}
 use Rattle.httparse.specs.Grammar.{ChunkLine, print_chunk_line, chunk_size, ReadsChunkLine, HasNoChunkLine, NeverHasChunkLine, MayBecomeChunkLine}
-use Rattle.http_reading.specs.Plans.{most_body, most_line}
+use Rattle.job_values.specs.declared.limits.TheConstants.{LONGEST_BODY}
+use Rattle.http_reading.specs.Plans.{most_line}
 use Rattle.http_reading.specs.declared.fault.HttpFault.{HttpFault}
 use Rattle.http_reading.specs.declared.fault.HttpFault.TheVariants.{Ended, BadHead, TooLarge, BadBody, LinkFault, NoMemory}
 
@@ -35,7 +36,7 @@ contents_of (chunk ∷ chunks) = chunk.content ++ contents_of chunks
 -- the bytes begin with these chunks, whose data is within the limit, and `rest` follows them
 pub record Front (bytes : List ℕ) (chunks : List Chunk) (rest : List ℕ) : Type 0 where
   pub reads : ReadsChunks bytes chunks rest
-  pub few : length (contents_of chunks) ≤ most_body
+  pub few : length (contents_of chunks) ≤ LONGEST_BODY
 
 -- the bytes begin with a chunked body, and `rest` follows it
 pub record ReadsChunked (bytes body rest : List ℕ) : Type 0 where
@@ -69,7 +70,7 @@ pub record BadLine (bytes : List ℕ) (place : ℕ) : Type 0 where
 -- behind data of this size a chunk begins whose line is whole, and whose data is within the limit
 pub record OpenChunk (before : ℕ) (bytes : List ℕ) (line : ChunkLine) (rest : List ℕ) : Type 0 where
   pub reads : Line bytes line rest
-  pub few : before + chunk_size line ≤ most_body
+  pub few : before + chunk_size line ≤ LONGEST_BODY
 
 -- its data or its CR LF is not whole
 pub record Unclosed (before : ℕ) (bytes : List ℕ) : Type 0 where
@@ -99,7 +100,7 @@ pub record LargeChunk (before : ℕ) (bytes : List ℕ) : Type 0 where
   pub line : ChunkLine
   pub rest : List ℕ
   pub reads : Line bytes line rest
-  pub large : most_body < before + chunk_size line
+  pub large : LONGEST_BODY < before + chunk_size line
 
 -- the fault of the bytes that stand behind whole chunks with so much data, of which the first has this
 -- place in the message; `ended` tells whether more can come

@@ -6,12 +6,9 @@ use Rattle.std.specs.Str.{str_eq_ignore_ascii_case}
 use Rattle.std.specs.Str.Parse.{digits_value}
 use Rattle.httparse.specs.Grammar.{Field}
 use Rattle.httparse.specs.Spans.{name_and_value}
+use Rattle.job_values.specs.declared.limits.TheConstants.{LONGEST_BODY}
 use Rattle.http_reading.specs.declared.plan.BodyPlan.{BodyPlan}
 use Rattle.http_reading.specs.declared.plan.BodyPlan.TheVariants.{Empty, Sized, Chunked, ToEnd, Bad, TooLarge}
-
--- the most bytes of a body
-abbrev pub most_body : ℕ
-most_body = 1048576
 
 -- the most bytes of a head, and of the line before a chunk
 abbrev pub most_line : ℕ
@@ -48,7 +45,7 @@ is_number value = nat_lt 0 (length value) && list_all is_ascii_digit value
 abbrev pub sized : List ℕ → BodyPlan
 sized value =
     if is_number value
-    then (if nat_le (digits_value 10 value) most_body then Sized (digits_value 10 value) else TooLarge)
+    then (if nat_le (digits_value 10 value) LONGEST_BODY then Sized (digits_value 10 value) else TooLarge)
     else Bad
 
 -- the body by the lengths and the codings that a head gives

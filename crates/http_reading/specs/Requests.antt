@@ -85,6 +85,10 @@ abbrev pub FaultOf : Option (List ℕ) → HttpFault → Type 0
 FaultOf None fault = Unit {0}
 FaultOf (Some bytes) fault = HasFault bytes true fault
 
+-- the fault is an end of the link
+abbrev pub IsEnd : HttpFault → Type 0
+IsEnd fault = (taken : ℕ) × (fault ≡ Ended taken)
+
 -- a call read so far: the bytes begin with this request, and what follows it stays held; or there are none
 -- and the link has ended
 pub record Took {A : Type 0} (left seen taken : A → Option (List ℕ)) (met : A → Bool) (dial faults : A → ℕ)

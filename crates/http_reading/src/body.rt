@@ -7,8 +7,9 @@ use super::chunks::chunked_body;
 use super::fault::HttpFault;
 use super::fill::fill;
 use super::head::copied;
-use super::plan::{BodyPlan, MOST_BODY};
+use super::plan::BodyPlan;
 use job_values::Seq;
+use job_values::limits::LONGEST_BODY;
 use outside::Link;
 use std::alloc::Global;
 
@@ -54,7 +55,7 @@ fn body_to_end<L: Link>(
 {
     let mut ended = false;
     while !ended {
-        if bytes.len() - start > MOST_BODY {
+        if bytes.len() - start > LONGEST_BODY {
             return Err(HttpFault::TooLarge);
         }
         ended = fill(link, bytes)?;

@@ -7,9 +7,10 @@ ghost use Rattle.http_reading.specs.ChunkReads.{ChunkRead, ChunkFault};
 use super::body::Body;
 use super::close::read_close;
 use super::fault::HttpFault;
-use super::plan::{BodyPlan, MOST_BODY};
+use super::plan::BodyPlan;
 use super::size_line::read_size;
 use job_values::Seq;
+use job_values::limits::LONGEST_BODY;
 use outside::Link;
 use std::alloc::Global;
 
@@ -30,12 +31,12 @@ fn read_chunk<L: Link>(
     body: &mut Vec<u8>,
 ) -> Result<ReadTo, HttpFault>
     requires at { at ≤ length bytes.old.items }
-    requires few { length body.old.items ≤ MOST_BODY }
+    requires few { length body.old.items ≤ LONGEST_BODY }
     ensures ok { IfOk result (ChunkRead L.left L.seen L.taken L.met L.dial L.faults link.old link.new bytes.old.items bytes.new.items at body.old.items body.new.items) }
     ensures err { IfErr result (Fails L.left L.seen L.taken L.met L.dial L.faults link.old link.new bytes.old.items (ChunkFault at (length body.old.items))) }
 {
     let line = read_size(link, bytes, at)?;
-    if line.size > MOST_BODY - body.len() {
+    if line.size > LONGEST_BODY - body.len() {
         return Err(HttpFault::TooLarge);
     }
     let content = at + line.len;

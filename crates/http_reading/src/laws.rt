@@ -1,5 +1,7 @@
 //! What holds of every list of bytes, every request and every fault.
-ghost use Rattle.http_reading.specs.Laws.{OneRequest, NoFault, NoneNoFault};
+ghost use Rattle.std.specs.Prelude.{◌≡◌};
+ghost use Rattle.job_values.specs.declared.limits.TheConstants.{LONGEST_BODY};
+ghost use Rattle.http_reading.specs.Laws.{OneRequest, NoFault, NoneNoFault, OneFault};
 
 /// Bytes begin with at most one request, and what follows it is told.
 pub fn law_one_request()
@@ -10,4 +12,14 @@ pub fn law_one_request()
 pub fn law_no_fault()
     ensures request { NoFault }
     ensures none { NoneNoFault }
+{}
+
+/// Bytes have one fault at most, but for two heads of which the parser leaves open which they have.
+pub fn law_one_fault()
+    ensures { OneFault }
+{}
+
+/// The numbers that the definitions cite.
+pub fn law_numbers()
+    ensures { LONGEST_BODY ≡ 1048576 }
 {}

@@ -19,7 +19,7 @@ mod tests;
 mod top;
 
 pub use fault::HttpFault;
-pub use laws::{law_no_fault, law_one_request};
-pub use plan::{BodyPlan, MOST_BODY, MOST_FIELDS, MOST_LINE};
+pub use laws::{law_no_fault, law_numbers, law_one_fault, law_one_request};
+pub use plan::{BodyPlan, MOST_FIELDS, MOST_LINE};
 pub use request::{HttpBuffer, Request, read_request};
 pub use response::{Response, read_response};

@@ -5,9 +5,7 @@ ghost use Rattle.http_reading.specs.Plans.{plan_of, sized};
 
 use super::fields::{Found, same_text, values_of};
 use httparse::spans::HeaderSpan;
-
-/// The most bytes of a body.
-pub const MOST_BODY: usize = 1_048_576;
+use job_values::limits::LONGEST_BODY;
 
 /// The most bytes of a head, and of the line before a chunk.
 pub const MOST_LINE: usize = 16_384;
@@ -59,9 +57,9 @@ fn sized(value: &[u8]) -> BodyPlan
         if !digit.is_ascii_digit() {
             return BodyPlan::Bad;
         }
-        length = (length * 10 + usize::from(*digit - b'0')).min(MOST_BODY + 1);
+        length = (length * 10 + usize::from(*digit - b'0')).min(LONGEST_BODY + 1);
     }
-    if length > MOST_BODY {
+    if length > LONGEST_BODY {
         return BodyPlan::TooLarge;
     }
     BodyPlan::Sized(length)

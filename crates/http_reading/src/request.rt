@@ -1,9 +1,9 @@
 //! Requests, one after another on a link.
-ghost use Rattle.std.specs.Prelude.{◌≡◌, ◌≤◌, [], true, false, Err, is_err, IfOk, IfErr, MatchOption};
+ghost use Rattle.std.specs.Prelude.{◌≡◌, ◌≤◌, [], true, false, Err, is_err, IfOk, IfErr, IsNone, MatchOption};
 ghost use Rattle.outside.specs.Causes.{Rose};
 ghost use Rattle.http_reading.specs.Draws.{Fails};
 ghost use Rattle.http_reading.specs.Heads.{HeadRead};
-ghost use Rattle.http_reading.specs.Requests.{HeadFault, HasFault, Took, stream, TakesNone, TakesRequest, FaultOf};
+ghost use Rattle.http_reading.specs.Requests.{HeadFault, HasFault, Took, stream, TakesNone, TakesRequest, FaultOf, IsEnd};
 
 use super::body::{drop_front, read_body};
 use super::fault::HttpFault;
@@ -62,7 +62,7 @@ fn read_head<L: Link>(
     ensures ok { IfOk result (HeadRead L.left L.seen L.taken L.met L.dial L.faults link.old link.new bytes.old.items bytes.new.items) }
     ensures err { IfErr result (Fails L.left L.seen L.taken L.met L.dial L.faults link.old link.new bytes.old.items HeadFault) }
 {
-    let mut ended = false;
+    let mut ended = bytes.is_empty() && fill_line(link, bytes, 0)?;
     loop {
         if let Some(head) = parse_head(alloc, bytes.as_slice())? {
             return Ok(Some(head));
@@ -113,6 +113,9 @@ pub fn read_request<L: Link>(
         (TakesNone (stream buffer.old.bytes (L.left link.old)) (stream buffer.new.bytes (L.left link.new)))
         (TakesRequest (stream buffer.old.bytes (L.left link.old)) (stream buffer.new.bytes (L.left link.new)))) }
     ensures fault { IfErr result (λ e. buffer.old.faulted ≡ false → FaultOf (stream buffer.old.bytes (L.left link.old)) e) }
+    // `None` and `Ended` come only where the link's end was met, whether the link tells its bytes or not.
+    ensures none { IfOk result (λ o. IsNone o → L.met link.new ≡ true) }
+    ensures ended { IfErr result (λ e. buffer.old.faulted ≡ false → IsEnd e → L.met link.new ≡ true) }
     ensures cause { result ≡ Err HttpFault.LinkFault → Rose (L.faults link.old) (L.faults link.new) }
     ensures later { L.faults link.old ≤ L.faults link.new }
     ensures written { L.taken link.new ≡ L.taken link.old }

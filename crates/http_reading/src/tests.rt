@@ -14,7 +14,7 @@ const CHUNKED: &[u8] =
     b"POST /run HTTP/1.1\r\nxxl-job-access-token: default_token\r\nXXL-JOB-ACCESS-TOKEN: other\r\nTransfer-Encoding: Chunked\r\n\r\n2e;x=1\r\n{\"jobId\":1,\"logId\":7,\"executorHandler\":\"demo\"}\r\n0\r\n\r\n";
 
 const PIPELINED: &[u8] =
-    b"\r\nGET /a HTTP/1.1\nconnection: CLOSE\n\nPOST /b HTTP/1.0\r\ncontent-length: 2\r\n\r\n\"\"PUT /c HTTP/1.1\r\ntransfer-encoding: chunked\r\n\r\n1\r\na\r\n2\r\nbc\r\n0\r\n\r\n";
+    b"\r\nGET /a HTTP/1.1\nconnection: CLOSE\n\nPOST /b HTTP/1.0\r\ncontent-length: 2\r\n\r\n\"\"PUT /c HTTP/1.1\r\ntransfer-encoding: chunked\r\n\r\n1\r\na\r\n2\r\nbc\r\n0\r\n\r\nGET /d HTTP/1.1\r\n\r\n";
 
 /// A link of these bytes, at most `piece` of them in a read.
 fn link_of(alloc: Global, bytes: &[u8], piece: usize) -> Result<MemoryLink, Fail> {
@@ -89,7 +89,8 @@ fn requests_follow_one_another_and_no_byte_more_is_read(rt: HostRuntime) -> Resu
     let c = read_request(alloc, &mut link, &mut buffer)?.ok_or("no third")?;
     assert_eq!(rt; c.method.as_slice(), b"PUT".as_slice());
     assert_eq!(rt; c.body.as_slice(), b"abc".as_slice());
-    assert!(rt; !c.close);
+    let d = read_request(alloc, &mut link, &mut buffer)?.ok_or("no fourth")?;
+    assert!(rt; d.body.is_empty() && !d.close);
     let end = read_request(alloc, &mut link, &mut buffer).err();
     assert_eq!(rt; end, Some(HttpFault::LinkFault));
     let after = read_request(alloc, &mut link, &mut buffer).err();

@@ -3,10 +3,10 @@ use Rattle.std.proofs.Common.{◌≡◌, ℕ, ◌+◌, ◌≤◌, ◌==◌, Bool
 use Rattle.std.proofs.lemmas.Bool.Decides.{nat_tests}
 use Rattle.job_values.specs.declared.run.CallbackItem.{CallbackItem}
 use Rattle.callback_spool.specs.Different.{names, HaveDifferentLogs}
-use Rattle.api_messages.specs.Meaning.{most_bytes}
+use Rattle.job_values.specs.declared.limits.TheConstants.{LONGEST_BODY}
 use Rattle.api_messages.specs.Tables.{item_rows}
 use Rattle.api_messages.specs.Seen.{item_cells}
-use Rattle.api_messages.specs.Reading.{message_at}
+use Rattle.api_messages.specs.Reading.{one_item_at}
 use Rattle.api_messages.specs.Writing.{Fit}
 use Rattle.spool_text.specs.Spool.{whole_from, last_from, item_at, items_from, spool_at, spool_text, item_line}
 use Rattle.spool_text.proofs.Plain.{HasNoEnd, line_plain}
@@ -20,7 +20,7 @@ abbrev pub AreReadAgain : List CallbackItem → Type 0
 AreReadAgain [] = Unit {0}
 AreReadAgain (item ∷ items) = IsReadAgain item × AreReadAgain items
 
-pub read_again : (item : CallbackItem) → Fit item_rows (item_cells item) → (length (item_line item) ≤ most_bytes → message_at item_rows (item_line item) ≡ Ok (item_cells item)) → IsReadAgain item
+pub read_again : (item : CallbackItem) → Fit item_rows (item_cells item) → (length (item_line item) ≤ LONGEST_BODY → one_item_at (item_line item) ≡ Ok (item_cells item)) → IsReadAgain item
 read_again item fits reads =
     let plain = line_plain item fits in
     (rw (reads (omega (arith, plain.short))) refl, plain.calm)

@@ -6,7 +6,7 @@ use Rattle.callback_spool.specs.Different.{names}
 use Rattle.api_messages.specs.Members.{Cell, int, text}
 use Rattle.api_messages.specs.Tables.{item_rows}
 use Rattle.api_messages.specs.Seen.{item_cells}
-use Rattle.api_messages.specs.Reading.{message_at}
+use Rattle.api_messages.specs.Reading.{one_item_at}
 use Rattle.api_messages.specs.Writing.{object_of}
 use Rattle.api_messages.specs.declared.fault.MessageFault.{MessageFault}
 use Rattle.spool_text.specs.declared.fault.SpoolFault.{SpoolFault}
@@ -44,9 +44,9 @@ abbrev pub item_read : Result (List Cell) MessageFault → Option CallbackItem
 item_read (Ok cells) = item_in cells
 item_read (Err e) = None
 
--- the item that a line is
+-- the item that a line is, in either form
 abbrev pub item_at : List ℕ → Option CallbackItem
-item_at line = item_read (message_at item_rows line)
+item_at line = item_read (one_item_at line)
 
 -- a further item, where its log is none of those before; else the line is bad
 abbrev pub goes_on : ℕ → List CallbackItem → Option CallbackItem → (List CallbackItem → Result (List CallbackItem) ℕ) → Result (List CallbackItem) ℕ

@@ -5,7 +5,7 @@ use Rattle.http_reading.proofs.request.read_head.Given as goal
 -- what was read
 abbrev pub invariant-loop-head : goal.invariant-loop-head
 invariant-loop-head g l =
-    Draws g.L.Link.left g.L.Link.seen g.L.Link.taken g.L.Link.met g.L.Link.dial g.L.Link.faults l.initial.link l.link l.initial.bytes.items l.bytes.items l.ended
+    Draws g.L.Link.left g.L.Link.seen g.L.Link.taken g.L.Link.met g.L.Link.dial g.L.Link.faults l.fn.link l.link l.fn.bytes.items l.bytes.items l.ended
 
 abbrev pub decreases-loop-head : goal.decreases-loop-head
 decreases-loop-head g l = 2 * (16384 - vec_len l.bytes) + cond l.ended 0 1

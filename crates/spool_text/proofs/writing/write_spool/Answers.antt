@@ -1,10 +1,10 @@
 use Rattle.std.proofs.Common.{◌≡◌, ◌≤◌, ◌∷◌, ◌++◌, [], ◌+◌, List, ℕ, take, length, Ok, sym, ap, subst, ◌∙◌, arith}
 use Rattle.std.proofs.lemmas.List.{take_more, take_all}
 use Rattle.job_values.specs.declared.run.CallbackItem.{CallbackItem}
-use Rattle.api_messages.specs.Meaning.{most_bytes}
+use Rattle.job_values.specs.declared.limits.TheConstants.{LONGEST_BODY}
 use Rattle.api_messages.specs.Tables.{item_rows}
 use Rattle.api_messages.specs.Seen.{item_cells}
-use Rattle.api_messages.specs.Reading.{message_at}
+use Rattle.api_messages.specs.Reading.{one_item_at}
 use Rattle.spool_text.specs.Spool.{spool_text}
 use Rattle.spool_text.proofs.Written.{AreReadAgain, read_again, again-push, text-push, spool_again}
 use Rattle.spool_text.proofs.writing.write_spool.Goals as goal
@@ -16,7 +16,7 @@ loop-item-preserved c =
     let i = c.loop-item.item-index in
     let more : take (i + 1) xs ≡ take i xs ++ item ∷ [] = take_more xs i item (omega arith) ∙ ap (λ (x : CallbackItem). take i xs ++ x ∷ []) (sym c.item-item.is) in
     let line = c.in_ok-line.ensures.text in
-    let P : List ℕ → Type 0 = λ b. length b ≤ most_bytes → message_at item_rows b ≡ Ok (item_cells item) in
+    let P : List ℕ → Type 0 = λ b. length b ≤ LONGEST_BODY → one_item_at b ≡ Ok (item_cells item) in
     rw more (record {
       text = c.in_ok-append.ensures ∙ (rw (c.loop-item.invariant.text, c.as_slice.ensures, line) (sym (text-push (take i xs) item)));
       again = again-push (take i xs) item c.loop-item.invariant.again (read_again item c.in_ok-line.ensures.fits (subst P line c.in_ok-line.ensures.reads));

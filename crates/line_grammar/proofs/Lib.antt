@@ -13,3 +13,4 @@ pub mod Ended
 pub mod GrammarLaws
 pub mod Spellings
 pub mod PartLaws
+pub mod TableLaws

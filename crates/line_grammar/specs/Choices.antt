@@ -13,10 +13,10 @@ word_at [] bytes = Ok bytes
 word_at (a ∷ word) [] = Err 0
 word_at (a ∷ word) (b ∷ bytes) = if a == b then word_at word bytes else Err (suc (length bytes))
 
--- this word where it stands, or what comes where it does not
-abbrev pub word_or : Result (List ℕ) ℕ → ℕ → (ℕ → Result (ℕ × List ℕ) ℕ) → Result (ℕ × List ℕ) ℕ
-word_or (Ok rest) i others = Ok (i, rest)
-word_or (Err left) i others = others left
+-- what this word tells where it stands, or what comes where it does not
+abbrev pub word_or : {V : Type 0} → Result (List ℕ) ℕ → V → (ℕ → Result (V × List ℕ) ℕ) → Result (V × List ℕ) ℕ
+word_or (Ok rest) v others = Ok (v, rest)
+word_or (Err left) v others = others left
 
 -- the first word that stands there, or where the word that goes furthest stops
 abbrev pub words_from : ℕ → ℕ → List (List ℕ) → List ℕ → Result (ℕ × List ℕ) ℕ

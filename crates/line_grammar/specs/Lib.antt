@@ -9,5 +9,6 @@ pub mod Dashes
 pub mod Lists
 pub mod Grammar
 pub mod Parts
+pub mod Tables
 pub mod Writing
 pub mod Laws

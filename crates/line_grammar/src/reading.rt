@@ -3,6 +3,7 @@ ghost use Rattle.std.specs.Prelude.{◌≡◌, ◌≤◌, true, map, length, IfO
 ghost use Rattle.line_grammar.specs.Reading.{Takes};
 ghost use Rattle.line_grammar.specs.Numbers.{is_number_form, number_at};
 ghost use Rattle.line_grammar.specs.Choices.{words_at};
+ghost use Rattle.line_grammar.specs.Tables.{row_at};
 ghost use Rattle.line_grammar.specs.Dashes.{end_words, optional_at, minus, code_at};
 ghost use Rattle.line_grammar.specs.Texts.{text_form, is_text_form, text_at};
 
@@ -53,6 +54,24 @@ impl Reader<'_> {
                 Ok(rest) => {
                     self.rest = rest;
                     return Ok(i);
+                }
+                Err(left) => least = least.min(left),
+            }
+        }
+        Err(ReadError::Bad(least))
+    }
+    /// The value whose word stands here, each word with the byte behind it.
+    #[tactic(auto, unfolding(crate::specs::Tables::row_at))]
+    pub fn one_of<T: Copy>(&mut self, rows: &[(&str, T)]) -> Result<T, ReadError>
+        ensures { Takes (λ v. v) result self.new.rest.now (row_at (map (λ row. (row.0.now, row.1)) rows.now) self.old.rest.now) }
+    {
+        let bytes = self.rest;
+        let mut least = bytes.len();
+        for (word, value) in rows {
+            match behind(word.as_bytes(), bytes) {
+                Ok(rest) => {
+                    self.rest = rest;
+                    return Ok(*value);
                 }
                 Err(left) => least = least.min(left),
             }

@@ -1,6 +1,7 @@
 -- What a word of a line says, as it is written: each is said, and nothing else is.
-use Rattle.std.proofs.Common.{◌≡◌, true, ℕ, zero, suc, ◌≤◌, List, [], ◌∷◌, ◌++◌, length, Option, refl, sym, ap, subst, ◌∙◌, arith}
-use Rattle.std.specs.Prelude.{decimal, codes, IfSome}
+use Rattle.std.proofs.Common.{◌≡◌, true, ℕ, zero, suc, ◌≤◌, List, [], ◌∷◌, ◌++◌, length, map, get_or, Option, refl, sym, ap, subst, ◌∙◌, arith}
+use Rattle.std.specs.Prelude.{decimal, codes, IfSome, if◌then◌else◌}
+use Rattle.std.specs.Str.{bytes_eq}
 use Rattle.std.specs.List.{AllByRecursion}
 use Rattle.job_values.specs.declared.words.GroupKind.{GroupKind}
 use Rattle.job_values.specs.declared.words.GroupKind.TheVariants.{Auto, Manual}
@@ -25,6 +26,7 @@ use Rattle.line_grammar.specs.Lists.{count_form}
 use Rattle.line_grammar.specs.Writing.{quoted, optional_text, counted_texts, counted_numbers}
 use Rattle.line_grammar.specs.Grammar.{Grammar, Gives, Number, Text, Optional, Choice, TextList, EndedNumbers, Says}
 use Rattle.line_grammar.specs.Parts.{and_then}
+use Rattle.line_grammar.specs.Tables.{one_of}
 use Rattle.line_grammar.specs.Laws.{IsNumberOf, IsTextOf}
 use Rattle.line_grammar.proofs.Decimals.{number_whole}
 use Rattle.line_grammar.proofs.Spellings.{text_whole, optional_said, optional_found, text_list_said, text_list_found, number_list_said, number_list_found, within_ends}
@@ -73,6 +75,17 @@ pub record HasWord {V : Type 0} (words : List (List ℕ)) (at : ℕ → V) (v : 
 pub say_word : {E V : Type 0} (word : List ℕ) (words : List (List ℕ)) {ok : are_apart (word ∷ words) ≡ true} (at : ℕ → V) (next : V → Grammar E) {e : E} {rest : List ℕ} (v : V) (text : List ℕ) → HasWord (word ∷ words) at v text → IsSaid (next v) e rest
     → IsSaid (Choice word words ok (λ i. next (at i))) e (text ++ rest)
 say_word word words at next {e = e} {rest = rest} v text h s = record { says = (h.place, text, rest, h.word, subst (λ u. Says (next u) e rest) (sym h.value) s.says, refl) }
+
+-- the first place of a word
+abbrev pub place_of : List ℕ → List (List ℕ) → ℕ
+place_of word [] = 0
+place_of word (other ∷ others) = if bytes_eq word other then 0 else suc (place_of word others)
+
+pub say_one_of : {E V : Type 0} (word : V → List ℕ) (first : V) (others : List V) {ok : are_apart (map word (first ∷ others)) ≡ true} (next : V → Grammar E) {e : E} {rest : List ℕ} (v : V)
+    → IsWord (map word (first ∷ others)) (place_of (word v) (map word (first ∷ others))) (word v) → get_or (first ∷ others) (place_of (word v) (map word (first ∷ others))) first ≡ v → IsSaid (next v) e rest
+    → IsSaid (one_of word first others ok next) e (word v ++ rest)
+say_one_of word first others next v there own s =
+    say_word (word first) (map word others) (λ i. get_or (first ∷ others) i first) next v (word v) (record { place = place_of (word v) (map word (first ∷ others)); word = there; value = own }) s
 
 pub say_part : {D E : Type 0} (g : Grammar D) (next : D → Grammar E) {d : D} {e : E} {first rest : List ℕ} → IsSaid g d first → IsSaid (next d) e rest → IsSaid (and_then g next) e (first ++ rest)
 say_part g next {d = d} {e = e} {first = first} {rest = rest} h s = record { says = part_said g next d e first rest h.says s.says }
@@ -135,6 +148,20 @@ pub only_word : {E : Type 0} {S : E → List ℕ → Type 0} (word : List ℕ) (
 only_word {S = S} word words {next = next} {front = front} all = record {
   holds = λ e text h.
       subst (λ (t : List ℕ). S e (front t)) (sym h.5) ((at_place (λ i w. SaysOnly S (next i) (λ rest. front (w ++ rest))) (word ∷ words) all h.0 h.1 h.3).holds e h.2 h.4);
+}
+
+-- a word at some place is that of the value there
+word_there : {V : Type 0} (word : V → List ℕ) (values : List V) (d : V) (i : ℕ) (text : List ℕ) → IsWord (map word values) i text → text ≡ word (get_or values i d)
+word_there word [] d i text h = absurd h
+word_there word (v ∷ values) d zero text h = h
+word_there word (v ∷ values) d (suc i) text h = word_there word values d i text h
+
+pub only_one_of : {E V : Type 0} {S : E → List ℕ → Type 0} (word : V → List ℕ) (first : V) (others : List V) {ok : are_apart (map word (first ∷ others)) ≡ true} {next : V → Grammar E} {front : List ℕ → List ℕ} → ((v : V) → SaysOnly S (next v) (λ rest. front (word v ++ rest)))
+    → SaysOnly S (one_of word first others ok next) front
+only_one_of {S = S} word first others {front = front} on = record {
+  holds = λ e text h.
+      let v = get_or (first ∷ others) h.0 first in
+      subst (λ (t : List ℕ). S e (front t)) (sym (h.5 ∙ ap (λ (w : List ℕ). w ++ h.2) (word_there word (first ∷ others) first h.0 h.1 h.3))) ((on v).holds e h.2 h.4);
 }
 
 pub only_part : {D E : Type 0} {P : D → List ℕ → Type 0} {S : E → List ℕ → Type 0} (g : Grammar D) (next : D → Grammar E) {front : List ℕ → List ℕ} → SaysOnly P g (λ text. text) → ((d : D) (first : List ℕ) → P d first → SaysOnly S (next d) (λ rest. front (first ++ rest)))

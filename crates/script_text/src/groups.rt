@@ -6,7 +6,8 @@ ghost use Rattle.line_grammar.specs.Grammar.{reading};
 ghost use Rattle.line_grammar.specs.Dashes.{number_form};
 ghost use Rattle.line_grammar.specs.Lists.{text_list_at};
 ghost use Rattle.line_grammar.specs.Texts.{text_form};
-ghost use Rattle.script_text.specs.Lines.{addgroup_line, setgroup_line};
+ghost use Rattle.script_text.specs.Lines.{behind};
+ghost use Rattle.script_text.specs.declared.commands.Command.TheVariants as command;
 
 use crate::words::{group, group_kind, group_kind_word};
 use job_events::ClusterEvent;
@@ -23,7 +24,7 @@ fn addresses(reader: &mut Reader, alloc: Global) -> Result<Addresses, ReadError>
 }
 
 pub(crate) fn addgroup(reader: &mut Reader, alloc: Global) -> Result<ClusterEvent, ReadError>
-    ensures { Takes (λ e. e) result reader.new.rest.now (reading addgroup_line reader.old.rest.now) }
+    ensures { Takes (λ e. e) result reader.new.rest.now (reading (behind command.AddGroup) reader.old.rest.now) }
 {
     let app = reader.bounded(alloc, End::Space)?;
     let kind = group_kind_word(reader)?;
@@ -32,7 +33,7 @@ pub(crate) fn addgroup(reader: &mut Reader, alloc: Global) -> Result<ClusterEven
 }
 
 pub(crate) fn setgroup(reader: &mut Reader, alloc: Global) -> Result<ClusterEvent, ReadError>
-    ensures { Takes (λ e. e) result reader.new.rest.now (reading setgroup_line reader.old.rest.now) }
+    ensures { Takes (λ e. e) result reader.new.rest.now (reading (behind command.SetGroup) reader.old.rest.now) }
 {
     let group = group(reader, End::Space)?;
     let kind = group_kind_word(reader)?;

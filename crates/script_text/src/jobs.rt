@@ -8,7 +8,8 @@ ghost use Rattle.line_grammar.specs.Lists.{ended_numbers_at};
 ghost use Rattle.line_grammar.specs.Texts.{text_form};
 ghost use Rattle.line_grammar.specs.Laws.{IsNumberOf};
 ghost use Rattle.std.specs.List.{AllByRecursion};
-ghost use Rattle.script_text.specs.Lines.{zone_at, spec_at, addjob_line, setjob_line, startjob_line, stopjob_line, dropjob_line, fire_line, showlog_line};
+ghost use Rattle.script_text.specs.Lines.{zone_at, spec_at, behind};
+ghost use Rattle.script_text.specs.declared.commands.Command.TheVariants as command;
 
 use crate::words::{
     admin, block, block_word, group, job, log, misfire, misfire_word, moment, retries, route,
@@ -121,14 +122,14 @@ fn spec(reader: &mut Reader, alloc: Global) -> Result<JobSpec, ReadError>
 }
 
 pub(crate) fn addjob(reader: &mut Reader, alloc: Global) -> Result<ClusterEvent, ReadError>
-    ensures { Takes (λ e. e) result reader.new.rest.now (reading addjob_line reader.old.rest.now) }
+    ensures { Takes (λ e. e) result reader.new.rest.now (reading (behind command.AddJob) reader.old.rest.now) }
 {
     let spec = spec(reader, alloc)?;
     Ok(ClusterEvent::AddJob(spec))
 }
 
 pub(crate) fn setjob(reader: &mut Reader, alloc: Global) -> Result<ClusterEvent, ReadError>
-    ensures { Takes (λ e. e) result reader.new.rest.now (reading setjob_line reader.old.rest.now) }
+    ensures { Takes (λ e. e) result reader.new.rest.now (reading (behind command.SetJob) reader.old.rest.now) }
 {
     let at = moment(reader, End::Space)?;
     let job = job(reader, End::Space)?;
@@ -137,7 +138,7 @@ pub(crate) fn setjob(reader: &mut Reader, alloc: Global) -> Result<ClusterEvent,
 }
 
 pub(crate) fn startjob(reader: &mut Reader) -> Result<ClusterEvent, ReadError>
-    ensures { Takes (λ e. e) result reader.new.rest.now (reading startjob_line reader.old.rest.now) }
+    ensures { Takes (λ e. e) result reader.new.rest.now (reading (behind command.StartJob) reader.old.rest.now) }
 {
     let at = moment(reader, End::Space)?;
     let job = job(reader, End::Line)?;
@@ -145,21 +146,21 @@ pub(crate) fn startjob(reader: &mut Reader) -> Result<ClusterEvent, ReadError>
 }
 
 pub(crate) fn stopjob(reader: &mut Reader) -> Result<ClusterEvent, ReadError>
-    ensures { Takes (λ e. e) result reader.new.rest.now (reading stopjob_line reader.old.rest.now) }
+    ensures { Takes (λ e. e) result reader.new.rest.now (reading (behind command.StopJob) reader.old.rest.now) }
 {
     let job = job(reader, End::Line)?;
     Ok(ClusterEvent::StopJob(job))
 }
 
 pub(crate) fn dropjob(reader: &mut Reader) -> Result<ClusterEvent, ReadError>
-    ensures { Takes (λ e. e) result reader.new.rest.now (reading dropjob_line reader.old.rest.now) }
+    ensures { Takes (λ e. e) result reader.new.rest.now (reading (behind command.DropJob) reader.old.rest.now) }
 {
     let job = job(reader, End::Line)?;
     Ok(ClusterEvent::RemoveJob(job))
 }
 
 pub(crate) fn fire(reader: &mut Reader, alloc: Global) -> Result<ClusterEvent, ReadError>
-    ensures { Takes (λ e. e) result reader.new.rest.now (reading fire_line reader.old.rest.now) }
+    ensures { Takes (λ e. e) result reader.new.rest.now (reading (behind command.Fire) reader.old.rest.now) }
 {
     let admin = admin(reader, End::Space)?;
     let at = moment(reader, End::Space)?;
@@ -169,7 +170,7 @@ pub(crate) fn fire(reader: &mut Reader, alloc: Global) -> Result<ClusterEvent, R
 }
 
 pub(crate) fn showlog(reader: &mut Reader) -> Result<ClusterEvent, ReadError>
-    ensures { Takes (λ e. e) result reader.new.rest.now (reading showlog_line reader.old.rest.now) }
+    ensures { Takes (λ e. e) result reader.new.rest.now (reading (behind command.ShowLog) reader.old.rest.now) }
 {
     let log = log(reader, End::Line)?;
     Ok(ClusterEvent::ReadLog(log))

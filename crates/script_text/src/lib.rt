@@ -2,6 +2,7 @@
 //! texts of replies and of the report.
 #![tactic(auto)]
 
+mod commands;
 mod faults;
 mod groups;
 mod jobs;

@@ -1,16 +1,15 @@
-//! Lines, each told by its first word.
+//! Lines, each read by its command.
 ghost use Rattle.std.specs.Prelude.{◌≡◌, ◌+◌, ◌-◌, ◌^◌, ◌≤◌, min, IfOk, IfErr};
 ghost use Rattle.job_events.specs.declared.cluster.ClusterEvent.{ClusterEvent};
 ghost use Rattle.line_grammar.specs.Reading.{Takes};
-ghost use Rattle.line_grammar.specs.Grammar.{reading};
-ghost use Rattle.script_text.specs.Lines.{line, IsLine};
+ghost use Rattle.script_text.specs.Lines.{line_at, IsLine};
 ghost use Rattle.script_text.specs.Faults.{IsFaultOf, IsReadAs};
 
+use crate::commands::{Command, command_of};
 use crate::faults::{LineError, LineFault};
 use crate::groups::{addgroup, setgroup};
 use crate::jobs::{addjob, dropjob, fire, setjob, showlog, startjob, stopjob};
 use crate::nodes::{ask, scan, start, step, stop, turn};
-use crate::words::first_word;
 use job_events::ClusterEvent;
 use line_grammar::laws::law_grammar;
 use line_grammar::{ReadError, Reader};
@@ -18,25 +17,25 @@ use std::alloc::Global;
 
 /// Any line.
 fn any(reader: &mut Reader, alloc: Global) -> Result<ClusterEvent, ReadError>
-    ensures { Takes (λ e. e) result reader.new.rest.now (reading line reader.old.rest.now) }
+    ensures { Takes (λ e. e) result reader.new.rest.now (line_at reader.old.rest.now) }
 {
-    match first_word(reader)? {
-        0 => start(reader),
-        1 => stop(reader),
-        2 => ask(reader),
-        3 => addgroup(reader, alloc),
-        4 => setgroup(reader, alloc),
-        5 => addjob(reader, alloc),
-        6 => setjob(reader, alloc),
-        7 => startjob(reader),
-        8 => stopjob(reader),
-        9 => dropjob(reader),
-        10 => fire(reader, alloc),
-        11 => scan(reader),
-        12 => step(reader),
-        13 => turn(reader),
-        14 => showlog(reader),
-        _ => Ok(ClusterEvent::Reopen),
+    match command_of(reader)? {
+        Command::Start => start(reader),
+        Command::Stop => stop(reader),
+        Command::Ask => ask(reader),
+        Command::AddGroup => addgroup(reader, alloc),
+        Command::SetGroup => setgroup(reader, alloc),
+        Command::AddJob => addjob(reader, alloc),
+        Command::SetJob => setjob(reader, alloc),
+        Command::StartJob => startjob(reader),
+        Command::StopJob => stopjob(reader),
+        Command::DropJob => dropjob(reader),
+        Command::Fire => fire(reader, alloc),
+        Command::Scan => scan(reader),
+        Command::Step => step(reader),
+        Command::Turn => turn(reader),
+        Command::ShowLog => showlog(reader),
+        Command::Reopen => Ok(ClusterEvent::Reopen),
     }
 }
 

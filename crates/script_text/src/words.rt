@@ -6,7 +6,6 @@ ghost use Rattle.line_grammar.specs.Numbers.{number_at};
 ghost use Rattle.line_grammar.specs.Choices.{words_at};
 ghost use Rattle.line_grammar.specs.Dashes.{number_form};
 ghost use Rattle.script_text.specs.Words.{group_kind_at, schedule_kind_at, misfire_at, route_at, route_words, block_at};
-ghost use Rattle.script_text.specs.Lines.{other_words};
 
 use job_values::limits::{
     LAST_ADMIN, LAST_JOB_ID, LAST_LOG_ID, LAST_MOMENT, LAST_RETRIES, LAST_SECONDS,
@@ -208,28 +207,4 @@ pub(crate) fn block(word: usize) -> Block
         1 => Block::DiscardLater,
         _ => Block::CoverEarly,
     }
-}
-
-/// Which first word of a line.
-pub(crate) fn first_word(reader: &mut Reader) -> Result<usize, ReadError>
-    ensures { Takes (λ i. i) result reader.new.rest.now (words_at (codes "start " ∷ other_words) reader.old.rest.now) }
-{
-    reader.choice(&[
-        "start ",
-        "stop ",
-        "ask ",
-        "addgroup ",
-        "setgroup ",
-        "addjob ",
-        "setjob ",
-        "startjob ",
-        "stopjob ",
-        "dropjob ",
-        "fire ",
-        "scan ",
-        "step ",
-        "turn ",
-        "showlog ",
-        "reopen\n",
-    ])
 }

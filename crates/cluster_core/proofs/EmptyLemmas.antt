@@ -19,7 +19,7 @@ use Rattle.cluster_plan.proofs.RingLemmas.{rings-stop_all}
 no-rows_keep : KeepsRules no_rows
 no-rows_keep = record {
   groups = record { rising = omega arith; last_id = omega arith; few = omega arith };
-  jobs = record { rising = omega arith; last_id = omega arith; running = All-nil _; schedules = All-nil _; groups_exist = All-nil _; few = omega arith };
+  jobs = record { rising = omega arith; last_id = omega arith; running = All-nil _; schedules = All-nil _; zones = All-nil _; groups_exist = All-nil _; few = omega arith };
   logs = record { rising = omega arith; last_id = omega arith; addresses = All-nil _ };
   registry = record { rising = λ i j d before within. absurd (omega arith); named = All-nil _; few = omega arith; few_of_key = λ key. omega arith };
 }

@@ -14,7 +14,7 @@ use Rattle.cron_schedule.specs.Parse.{parsed}
 use Rattle.job_records.specs.declared.change.Change.TheVariants as change
 use Rattle.job_records.specs.declared.job.Job.{Job}
 use Rattle.job_records.specs.Rows.{changed, RisesFrom}
-use Rattle.job_records.specs.Rules.{KeepsRules, RunsByNext, HasItsSchedule, HasGroup}
+use Rattle.job_records.specs.Rules.{KeepsRules, RunsByNext, HasItsSchedule, SaysZone, HasItsZone, HasGroup}
 use Rattle.job_records.specs.Tables.{Tables}
 use Rattle.job_records.specs.Changes.{put_row, AreAllowed}
 use Rattle.job_records.proofs.RowLemmas.{rises-from_rising}
@@ -81,14 +81,14 @@ jobs-put h new_of job row new rises found id here other =
     ∙ ap (λ n. changed (λ (x : Job). x.id) n (λ _. new) (jobs_of h)) id
     ∙ rows-put (row_of h) new_of job new (λ j. refl) here other (ids_of h)
 
--- a row that takes the place of a present job's is allowed, with a schedule as its spec says and a group that is there
+-- a row that takes the place of a present job's is allowed, with a schedule and a zone as its spec says and a group that is there
 pub edit-allowed : (t : Tables) (job : ℕ) (row new : Job) (spec : JobSpec) (plan : Plan) (edition : ℕ) (next : Option ℕ) → KeepsRules t → job_with job t.jobs ≡ Some row → new ≡ updated_row spec plan edition next row
-    → parsed spec.kind spec.schedule ≡ Ok plan → is_some (group_with spec.group t.groups) ≡ true → AreAllowed t (change.PutJob new ∷ [])
-edit-allowed t job row new spec plan edition next rules found made said group =
+    → parsed spec.kind spec.schedule ≡ Ok plan → SaysZone spec.zone → is_some (group_with spec.group t.groups) ≡ true → AreAllowed t (change.PutJob new ∷ [])
+edit-allowed t job row new spec plan edition next rules found made said zone group =
     let id : new.id ≡ job = ap (λ (x : Job). x.id) made ∙ found-id (λ (x : Job). x.id) job t.jobs row found in
     let there : job_with new.id t.jobs ≡ Some row = subst (λ n. job_with n t.jobs ≡ Some row) (sym id) found in
     let within = found-within (λ (x : Job). x.id) 0 t.last.job new.id t.jobs row rules.jobs.rising there in (
-      keeps_job t new rules (omega (arith, within.0)) within.1 (subst RunsByNext (sym made) refl) (subst HasItsSchedule (sym made) said) (subst (HasGroup t.groups) (sym made) group) (inl (ap is_some there)),
+      keeps_job t new rules (omega (arith, within.0)) within.1 (subst RunsByNext (sym made) refl) (subst HasItsSchedule (sym made) said) (subst HasItsZone (sym made) zone) (subst (HasGroup t.groups) (sym made) group) (inl (ap is_some there)),
       tt,
     )
 
@@ -96,7 +96,7 @@ edit-allowed t job row new spec plan edition next rules found made said group =
 pub turn-allowed : (t : Tables) (job : ℕ) (row new : Job) (edition : ℕ) (next : Option ℕ) → KeepsRules t → job_with job t.jobs ≡ Some row → new ≡ turned_row edition next row → AreAllowed t (change.PutJob new ∷ [])
 turn-allowed t job row new edition next rules found made =
     let kept = job_has_rules t.groups t.jobs t.last.job job row rules.jobs found in
-    edit-allowed t job row new row.spec row.schedule edition next rules found made kept.1 kept.2
+    edit-allowed t job row new row.spec row.schedule edition next rules found made kept.1 kept.2 kept.3
 
 -- the row of a present job, in a history that is stood for
 pub row-stands : (kept : Kept) (h : History) (job : ℕ) (row : Job) → job_with job kept.tables.jobs ≡ Some row → Stands kept h → job_with job (jobs_of h) ≡ Some row

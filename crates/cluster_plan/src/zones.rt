@@ -13,7 +13,8 @@ pub fn zone_said(settings: Settings, spec: &JobSpec) -> Result<Zone, ZoneFault>
     Zone::parse(spec.zone.get(), settings.offset)
 }
 
-/// The zone that the times of a job are told by.
+/// The zone that the times of a job are told by. The text of a row always says one; any other stands
+/// for the offset of the settings.
 pub fn zone_of(settings: Settings, spec: &JobSpec) -> Zone
     ensures { result ≡ zone_of settings spec.now }
 {

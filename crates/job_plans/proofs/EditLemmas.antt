@@ -22,6 +22,7 @@ use Rattle.job_records.specs.Tables.{Tables}
 use Rattle.job_records.specs.Changes.{put_row, AreAllowed}
 use Rattle.job_records.proofs.RowLemmas.{rises-from_rising}
 use Rattle.job_records.proofs.Keeping.{keeps_job, job_has_rules}
+use Rattle.job_records.proofs.ZoneLemmas.{zone-says}
 use Rattle.cluster_history.specs.declared.settings.Settings.{Settings}
 use Rattle.cluster_history.specs.History.{History, After, accepted, settings_of}
 use Rattle.cluster_history.specs.Groups.{groups_of, group_with}
@@ -192,7 +193,7 @@ pub update-planned : (kept : Kept) (at job edition : ℕ) (spec copied : JobSpec
 update-planned kept at job edition spec copied plan zone next row new rules found group said clock says same made =
     let is : new ≡ updated_row spec plan edition next row = made ∙ ap (λ x. updated_row x plan edition next row) same in
     let raises = again-is row.edition edition (is_some row.next) (updated_time zone plan at row.next) next says in
-    planned-rows kept (UpdateJob at job spec) (Updated edition next) (change.PutJob new ∷ []) (edit-allowed kept.tables job row new spec plan edition next rules found is said group) refl tt refl
+    planned-rows kept (UpdateJob at job spec) (Updated edition next) (change.PutJob new ∷ []) (edit-allowed kept.tables job row new spec plan edition next rules found is said (zone-says spec.zone kept.settings.offset zone clock) group) refl tt refl
     (λ h. record { running = refl; scan = refl; rings = refl; pools = refl })
     (λ h s. update-reply kept h at job spec s ∙ update-found kept at job spec row plan zone found group said clock ∙ says)
     (λ h s.

@@ -20,12 +20,13 @@ use Rattle.job_records.specs.declared.job.Job.{Job}
 use Rattle.job_records.specs.declared.last_ids.LastIds.{LastIds}
 use Rattle.job_values.specs.declared.limits.TheConstants.{MOST_JOBS}
 use Rattle.job_records.specs.Rows.{IsRising}
-use Rattle.job_records.specs.Rules.{KeepsRules}
+use Rattle.job_records.specs.Rules.{KeepsRules, SaysZone}
 use Rattle.job_records.specs.Tables.{Tables}
 use Rattle.job_records.specs.Changes.{without, applied, AreAllowed}
 use Rattle.job_records.proofs.RowLemmas.{rising-ends}
 use Rattle.job_records.proofs.PutLemmas.{put_behind}
 use Rattle.job_records.proofs.Keeping.{keeps_last, keeps_job, keeps_drop_job}
+use Rattle.job_records.proofs.ZoneLemmas.{zone-says}
 use Rattle.cluster_history.specs.declared.settings.Settings.{Settings}
 use Rattle.cluster_history.specs.History.{History, After, accepted}
 use Rattle.cluster_history.specs.Groups.{groups_of, group_with}
@@ -116,15 +117,15 @@ pub add-spent : (kept : Kept) (spec : JobSpec) (plan : Plan) (zone : Zone) → i
 add-spent kept spec plan zone group said clock room spent =
     planned-refused kept (AddJob spec) (TooMany LAST_JOB_ID) (λ h s. add-reply kept h spec s ∙ job-reply_found kept spec plan zone group said clock ∙ job-spent (length kept.tables.jobs) kept.tables.last.job room spent)
 
-add-allowed : (t : Tables) (spec : JobSpec) (plan : Plan) (id : ℕ) (last : LastIds) → KeepsRules t → is_some (group_with spec.group t.groups) ≡ true → parsed spec.kind spec.schedule ≡ Ok plan → length t.jobs < MOST_JOBS → t.last.job < LAST_JOB_ID → id ≡ t.last.job + 1 → last ≡ with_last_job id t.last
+add-allowed : (t : Tables) (spec : JobSpec) (plan : Plan) (id : ℕ) (last : LastIds) → KeepsRules t → is_some (group_with spec.group t.groups) ≡ true → parsed spec.kind spec.schedule ≡ Ok plan → SaysZone spec.zone → length t.jobs < MOST_JOBS → t.last.job < LAST_JOB_ID → id ≡ t.last.job + 1 → last ≡ with_last_job id t.last
     → AreAllowed t (adding_job last (new_row id spec plan))
-add-allowed t spec plan id last rules group said room ids here is =
+add-allowed t spec plan id last rules group said zone room ids here is =
     let groups : last.group ≡ t.last.group = ap (λ (x : LastIds). x.group) is in
     let job : last.job ≡ id = ap (λ (x : LastIds). x.job) is in
     let log : last.log ≡ t.last.log = ap (λ (x : LastIds). x.log) is in
     let most : t.last.job < 2147483647 = ids in
     let raised = keeps_last t last rules (omega arith) (omega arith) (omega arith) (omega (arith, rules.groups.last_id)) (omega arith) (omega (arith, rules.logs.last_id)) in
-    (raised, (keeps_job (applied t (change.LastIds last)) (new_row id spec plan) raised (omega arith) (omega arith) refl said group (inr room), tt))
+    (raised, (keeps_job (applied t (change.LastIds last)) (new_row id spec plan) raised (omega arith) (omega arith) refl said zone group (inr room), tt))
 
 -- a job's row, by whether it is the one that is added
 abbrev row_added : History → JobSpec → Bool → ℕ → Job
@@ -156,7 +157,7 @@ pub add_job-planned : (kept : Kept) (spec copied : JobSpec) (plan : Plan) (zone 
     → IsPlanned kept (AddJob spec) (record { reply = JobReply id; changes = adding_job last (new_row id copied plan); node = node.Nothing })
 add_job-planned kept spec copied plan zone id last rules group said clock room ids here same is =
     planned-rows kept (AddJob spec) (JobReply id) (adding_job last (new_row id copied plan))
-    (subst (λ (x : JobSpec). AreAllowed kept.tables (adding_job last (new_row id x plan))) (sym same) (add-allowed kept.tables spec plan id last rules group said room ids here is)) refl tt refl
+    (subst (λ (x : JobSpec). AreAllowed kept.tables (adding_job last (new_row id x plan))) (sym same) (add-allowed kept.tables spec plan id last rules group said (zone-says spec.zone kept.settings.offset zone clock) room ids here is)) refl tt refl
     (λ h. record { running = refl; scan = refl; rings = refl; pools = refl })
     (λ h s. add-reply kept h spec s ∙ job-reply_found kept spec plan zone group said clock ∙ job-room (length kept.tables.jobs) kept.tables.last.job room ids ∙ ap (λ n. JobReply n) (sym here))
     (λ h s.

@@ -10,7 +10,7 @@ use Rattle.job_records.specs.declared.last_ids.LastIds.{LastIds}
 use Rattle.job_records.specs.declared.log.Log.{Log}
 use Rattle.job_records.specs.declared.registry.RegistryRow.{RegistryRow}
 use Rattle.rising_rows.specs.Rising.{row_with, put_row, IsRising}
-use Rattle.job_records.specs.Rules.{RunsByNext, HasItsSchedule, HasGroup, HasAddress, HasPlace, IsNamed, HasKeyPlace, count_of_key, AreLast, KeepsRules}
+use Rattle.job_records.specs.Rules.{RunsByNext, HasItsSchedule, HasItsZone, HasGroup, HasAddress, HasPlace, IsNamed, HasKeyPlace, count_of_key, AreLast, KeepsRules}
 use Rattle.job_records.specs.Tables.{Tables}
 use Rattle.job_records.specs.Order.{key_order, is_registered}
 use Rattle.rising_rows.specs.Seats.{IsSeat}
@@ -42,15 +42,16 @@ group_allowed t group h least = (
 )
 
 -- a job may be put exactly where its id was given, there is place for it, and it is as it must be
-pub job_allowed : (t : Tables) (job : Job) → KeepsRules t → 1 ≤ job.id → ((job.id ≤ t.last.job) × HasPlace (λ j. j.id) job.id t.jobs MOST_JOBS × RunsByNext job × HasGroup t.groups job × HasItsSchedule job) ↔ KeepsRules (applied t (PutJob job))
+pub job_allowed : (t : Tables) (job : Job) → KeepsRules t → 1 ≤ job.id → ((job.id ≤ t.last.job) × HasPlace (λ j. j.id) job.id t.jobs MOST_JOBS × RunsByNext job × HasGroup t.groups job × HasItsZone job × HasItsSchedule job) ↔ KeepsRules (applied t (PutJob job))
 job_allowed t job h least =
     let there = row_with-put_same (λ (j : Job). j.id) job t.jobs in (
-      λ fits. keeps_job t job h least fits.0 fits.2 fits.4 fits.3 fits.1,
+      λ fits. keeps_job t job h least fits.0 fits.2 fits.5 fits.4 fits.3 fits.1,
       λ after. (
         id-within (λ (j : Job). j.id) 0 t.last.job job t.jobs after.jobs.rising,
         place-found (λ (j : Job). j.id) MOST_JOBS job t.jobs after.jobs.few,
         row_has RunsByNext (λ j. j.id) job.id (put_row (λ j. j.id) job t.jobs) job there after.jobs.running,
         row_has (HasGroup t.groups) (λ j. j.id) job.id (put_row (λ j. j.id) job t.jobs) job there after.jobs.groups_exist,
+        row_has HasItsZone (λ j. j.id) job.id (put_row (λ j. j.id) job t.jobs) job there after.jobs.zones,
         row_has HasItsSchedule (λ j. j.id) job.id (put_row (λ j. j.id) job t.jobs) job there after.jobs.schedules,
       ),
     )
@@ -76,6 +77,7 @@ last_allowed t last h = (
       last_id = fits.job_ids;
       running = h.jobs.running;
       schedules = h.jobs.schedules;
+      zones = h.jobs.zones;
       groups_exist = h.jobs.groups_exist;
       few = h.jobs.few;
     };

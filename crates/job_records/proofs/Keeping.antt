@@ -17,7 +17,7 @@ use Rattle.rising_rows.specs.Rising.{row_with, put_row, IsRising}
 use Rattle.rising_rows.specs.Seats.{key_order}
 use Rattle.job_records.specs.Order.{is_registered}
 pub use Rattle.job_records.specs.Rules.{HasPlace}
-use Rattle.job_records.specs.Rules.{IsNamed, HasKeyPlace, RunsByNext, HasItsSchedule, HasGroup, HasAddress, JobRules, LogRules, KeepsRules}
+use Rattle.job_records.specs.Rules.{IsNamed, HasKeyPlace, RunsByNext, HasItsSchedule, HasItsZone, HasGroup, HasAddress, JobRules, LogRules, KeepsRules}
 use Rattle.job_records.specs.Tables.{Tables}
 use Rattle.job_records.specs.Changes.{applied, applied_all, AreAllowed}
 use Rattle.rising_rows.proofs.RowLemmas.{rises-from_rising, rising-more, rising-push, rising-ends, row_has}
@@ -58,6 +58,7 @@ keeps_last t last h groups jobs logs most_group most_job most_log =
         last_id = most_job;
         running = h.jobs.running;
         schedules = h.jobs.schedules;
+        zones = h.jobs.zones;
         groups_exist = h.jobs.groups_exist;
         few = h.jobs.few;
       };
@@ -79,6 +80,7 @@ keeps_group t group h least within place =
         last_id = h.jobs.last_id;
         running = h.jobs.running;
         schedules = h.jobs.schedules;
+        zones = h.jobs.zones;
         groups_exist = λ k d lt. HasGroup-put group t.groups (get_or t.jobs k d) (h.jobs.groups_exist k d lt);
         few = h.jobs.few;
       };
@@ -87,8 +89,8 @@ keeps_group t group h least within place =
     }
 
 -- a job whose id was given and that is as it must be, where there is place
-pub keeps_job : (t : Tables) (job : Job) → KeepsRules t → 1 ≤ job.id → job.id ≤ t.last.job → RunsByNext job → HasItsSchedule job → HasGroup t.groups job → HasPlace (λ j. j.id) job.id t.jobs MOST_JOBS → KeepsRules (applied t (PutJob job))
-keeps_job t job h least within running schedule group place =
+pub keeps_job : (t : Tables) (job : Job) → KeepsRules t → 1 ≤ job.id → job.id ≤ t.last.job → RunsByNext job → HasItsSchedule job → HasItsZone job → HasGroup t.groups job → HasPlace (λ j. j.id) job.id t.jobs MOST_JOBS → KeepsRules (applied t (PutJob job))
+keeps_job t job h least within running schedule zone group place =
     record {
       groups = h.groups;
       jobs = record {
@@ -96,6 +98,7 @@ keeps_job t job h least within running schedule group place =
         last_id = h.jobs.last_id;
         running = All-put RunsByNext (key_order (λ j. j.id) job.id) job t.jobs h.jobs.running running;
         schedules = All-put HasItsSchedule (key_order (λ j. j.id) job.id) job t.jobs h.jobs.schedules schedule;
+        zones = All-put HasItsZone (key_order (λ j. j.id) job.id) job t.jobs h.jobs.zones zone;
         groups_exist = All-put (HasGroup t.groups) (key_order (λ j. j.id) job.id) job t.jobs h.jobs.groups_exist group;
         few = few-put (λ (j : Job). j.id) 0 t.last.job MOST_JOBS job t.jobs h.jobs.rising h.jobs.few place;
       };
@@ -128,6 +131,7 @@ keeps_drop_job t id h =
         last_id = h.jobs.last_id;
         running = All-filter test RunsByNext t.jobs h.jobs.running;
         schedules = All-filter test HasItsSchedule t.jobs h.jobs.schedules;
+        zones = All-filter test HasItsZone t.jobs h.jobs.zones;
         groups_exist = All-filter test (HasGroup t.groups) t.jobs h.jobs.groups_exist;
         few = shorter test t.jobs MOST_JOBS h.jobs.few;
       };
@@ -176,9 +180,13 @@ all_keep t [] kept h = kept
 all_keep t (c ∷ cs) kept h = all_keep (applied t c) cs h.0 h.1
 
 -- a job that is there is as it must be
-pub job_has_rules : (groups : List Group) (jobs : List Job) (last id : ℕ) (job : Job) → JobRules groups jobs last → row_with (λ j. j.id) id jobs ≡ Some job → RunsByNext job × HasItsSchedule job × HasGroup groups job
-job_has_rules groups jobs last id job h is =
-    (row_has RunsByNext (λ j. j.id) id jobs job is h.running, row_has HasItsSchedule (λ j. j.id) id jobs job is h.schedules, row_has (HasGroup groups) (λ j. j.id) id jobs job is h.groups_exist)
+pub job_has_rules : (groups : List Group) (jobs : List Job) (last id : ℕ) (job : Job) → JobRules groups jobs last → row_with (λ j. j.id) id jobs ≡ Some job → RunsByNext job × HasItsSchedule job × HasItsZone job × HasGroup groups job
+job_has_rules groups jobs last id job h is = (
+  row_has RunsByNext (λ j. j.id) id jobs job is h.running,
+  row_has HasItsSchedule (λ j. j.id) id jobs job is h.schedules,
+  row_has HasItsZone (λ j. j.id) id jobs job is h.zones,
+  row_has (HasGroup groups) (λ j. j.id) id jobs job is h.groups_exist,
+)
 
 -- a log that is there and was sent has an address
 pub log_has_rules : (logs : List Log) (last id : ℕ) (log : Log) → LogRules logs last → row_with (λ l. l.id) id logs ≡ Some log → HasAddress log

@@ -3,6 +3,7 @@ pub mod OrderLemmas
 pub mod DropLemmas
 pub mod PutLemmas
 pub mod Keeping
+pub mod ZoneLemmas
 pub mod AllowLemmas
 pub mod RegistryLemmas
 pub mod KeyLemmas

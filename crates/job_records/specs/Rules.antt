@@ -1,7 +1,9 @@
 -- The rules that the tables always keep.
-use Rattle.std.specs.Prelude.{◌≡◌, true, ℕ, ◌<◌, ◌≤◌, ◌⊎◌, List, length, count_by, All, bytes_eq, IsSome, is_some, Ok}
+use Rattle.std.specs.Prelude.{◌≡◌, true, ℕ, ◌<◌, ◌≤◌, ◌⊎◌, List, [], length, count_by, All, bytes_eq, IsSome, is_some, Ok}
 use Rattle.std.specs.List.{list_any}
 use Rattle.job_values.specs.declared.limits.TheConstants.{LAST_JOB_ID, LAST_LOG_ID, MOST_GROUPS, MOST_JOBS, MOST_REGISTRATIONS, MOST_OF_KEY, SUCCESS}
+use Rattle.zone_texts.specs.declared.zone.Zone.{Zone}
+use Rattle.zone_texts.specs.Laws.{IsZoneText}
 use Rattle.cron_schedule.specs.Parse.{parsed}
 use Rattle.job_records.specs.declared.group.Group.{Group}
 use Rattle.job_records.specs.declared.job.Job.{Job}
@@ -19,6 +21,14 @@ RunsByNext job = job.running ≡ is_some job.next
 -- a job's schedule is what its spec's kind and text say
 abbrev pub HasItsSchedule : Job → Type 0
 HasItsSchedule job = parsed job.spec.kind job.spec.schedule ≡ Ok job.schedule
+
+-- a text says a zone: it is empty, which stands for the offset of the settings, or a zone text
+abbrev pub SaysZone : List ℕ → Type 0
+SaysZone text = (text ≡ []) ⊎ ((zone : Zone) × IsZoneText text zone)
+
+-- a job's zone is what its spec's text says
+abbrev pub HasItsZone : Job → Type 0
+HasItsZone job = SaysZone job.spec.zone
 
 -- a job's group is one of these
 abbrev pub HasGroup : List Group → Job → Type 0
@@ -67,6 +77,7 @@ pub record JobRules (groups : List Group) (jobs : List Job) (last : ℕ) : Type 
   pub last_id : last ≤ LAST_JOB_ID
   pub running : All RunsByNext jobs
   pub schedules : All HasItsSchedule jobs
+  pub zones : All HasItsZone jobs
   pub groups_exist : All (HasGroup groups) jobs
   pub few : length jobs ≤ MOST_JOBS
 

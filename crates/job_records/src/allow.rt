@@ -3,7 +3,7 @@ ghost use Rattle.std.specs.Prelude.{◌≡◌, ℕ, ◌≤◌, ◌↔◌, IsTrue
 ghost use Rattle.job_values.specs.declared.limits.TheConstants.{LAST_JOB_ID, LAST_LOG_ID, MOST_GROUPS, MOST_JOBS};
 ghost use Rattle.job_records.specs.declared.change.Change.TheVariants as change;
 ghost use Rattle.rising_rows.specs.Rising.{RisesFrom, IsRising};
-ghost use Rattle.job_records.specs.Rules.{RunsByNext, HasItsSchedule, HasGroup, HasAddress, HasPlace, AreLast, KeepsRules};
+ghost use Rattle.job_records.specs.Rules.{RunsByNext, HasItsSchedule, HasItsZone, HasGroup, HasAddress, HasPlace, AreLast, KeepsRules};
 ghost use Rattle.job_records.specs.Changes.{applied};
 
 use super::change::Change;
@@ -15,10 +15,11 @@ use super::log::Log;
 use super::records::Records;
 use super::registry::RegistryRow;
 use cron_schedule::{ParseFault, Schedule};
-use job_values::NoMemory;
 use job_values::limits::{LAST_JOB_ID, LAST_LOG_ID, MOST_GROUPS, MOST_JOBS, SUCCESS};
+use job_values::{NoMemory, Offset};
 use rising_rows::{Keyed, has_row};
 use std::alloc::Global;
+use zone_texts::Zone;
 
 /// Whether a list has a row with this id, or fewer rows than a limit.
 fn has_place<R: Keyed>(rows: &[R], id: u64, most: usize) -> bool
@@ -47,16 +48,27 @@ fn group_fits(groups: &[Group], last: u32, group: &Group) -> bool
     group.id.get() <= last && has_place(groups, group.id.get() as u64, MOST_GROUPS)
 }
 
+/// Whether a job's zone text is empty or a zone text.
+fn has_its_zone(job: &Job) -> bool
+    ensures { IsTrue result ↔ HasItsZone job.now }
+{
+    match Offset::new(0) {
+        Some(offset) => Zone::parse(job.spec.zone.get(), offset).is_ok(),
+        None => unreachable!(),
+    }
+}
+
 fn job_fits(groups: &[Group], jobs: &[Job], last: u32, job: &Job) -> bool
     requires groups { RisesFrom (λ g. g.id) 0 groups.now }
     requires jobs { RisesFrom (λ j. j.id) 0 jobs.now }
     ensures least { 1 ≤ job.now.id }
-    ensures fits { IsTrue result ↔ ((job.now.id ≤ last) × HasPlace (λ j. j.id) job.now.id jobs.now MOST_JOBS × RunsByNext job.now × HasGroup groups.now job.now) }
+    ensures fits { IsTrue result ↔ ((job.now.id ≤ last) × HasPlace (λ j. j.id) job.now.id jobs.now MOST_JOBS × RunsByNext job.now × HasGroup groups.now job.now × HasItsZone job.now) }
 {
     job.id.get() <= last
         && has_place(jobs, job.id.get() as u64, MOST_JOBS)
         && job.running == job.next.is_some()
         && has_row(groups, job.spec.group.get() as u64)
+        && has_its_zone(job)
 }
 
 /// Whether a job's schedule is what its spec's kind and text say.

@@ -7,7 +7,8 @@ use job_values::{Edition, JobId, JobSpec, Moment, NoMemory};
 use rising_rows::Keyed;
 use std::alloc::Global;
 
-/// A job. It runs exactly where it has a next time, and its schedule is what its spec's text says.
+/// A job. It runs exactly where it has a next time, its schedule is what its spec's text says, and
+/// its zone text is empty or a zone text.
 #[derive(Drop)]
 pub struct Job {
     pub id: JobId,

@@ -17,7 +17,7 @@ returns-then-not-job_fits c =
       λ (t : false ≡ true). absurd (cc),
       λ after.
           let all = (job_allowed _ c.args.job.now c.self.invariant c.job_fits.ensures.least).1 after in
-          sym c.if-not-job_fits.true ∙ fits.1 (all.0, all.1, all.2, all.3),
+          sym c.if-not-job_fits.true ∙ fits.1 (all.0, all.1, all.2, all.3, all.4),
     )
 
 pub returns : goal.returns
@@ -25,4 +25,4 @@ returns c =
     let fits = (rw (c.as_slice.ensures.value, c.as_slice-2.ensures.value) at c.job_fits.ensures.fits).0 c.if-not-job_fits.false in
     let allowed = job_allowed _ c.args.job.now c.self.invariant c.job_fits.ensures.least in
     rw (← c.self.view_is)
-    (IfOk-weaker c.has_its_schedule.result _ _ (λ same is. both is (λ says. allowed.0 (fits.0, fits.1, fits.2, fits.3, says), λ after. (allowed.1 after).4)) c.has_its_schedule.ensures)
+    (IfOk-weaker c.has_its_schedule.result _ _ (λ same is. both is (λ says. allowed.0 (fits.0, fits.1, fits.2, fits.3, fits.4, says), λ after. (allowed.1 after).5)) c.has_its_schedule.ensures)

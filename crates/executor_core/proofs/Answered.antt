@@ -8,9 +8,9 @@ use Rattle.job_events.specs.declared.executor.ExecutorEvent.TheVariants as event
 use Rattle.job_events.specs.declared.executor.ExecutorReply.{ExecutorReply}
 use Rattle.executor_history.specs.declared.records.Working.{Working}
 use Rattle.executor_history.specs.History.{History, After, accepted, is_refusal, with_accepted}
-use Rattle.executor_history.specs.Runs.{run_on}
+use Rattle.executor_history.specs.Runs.{run_on, ready_front}
 use Rattle.executor_history.specs.Past.{Parts, parts_of, line_on, on_runners, is_among}
-use Rattle.executor_history.specs.Replies.{reply_in, run_reply}
+use Rattle.executor_history.specs.Replies.{reply_in, run_reply, poll_reply}
 use Rattle.executor_core.specs.declared.change.Change.{Change}
 use Rattle.executor_core.specs.declared.change.Change.TheVariants as change
 use Rattle.executor_core.specs.Parts.{line_change, change_by, change_of, parts_after, Follows, Answered, Answers}
@@ -66,12 +66,16 @@ line_follows : (p : Parts) (o : Option Working) (text : List ℕ) → Follows p 
 line_follows p None text = tt
 line_follows p (Some working) text = tt
 
+free : (o : Option Working) (front : Option Queued) → is_refusal (poll_reply o front) ≡ false → o ≡ None
+free None front h = refl
+free (Some w) front h = absurd (false≢true (sym h))
+
 follows_by : (p : Parts) (e : ExecutorEvent) → is_refusal (reply_in p e) ≡ false → Follows p (change_by p e)
 follows_by p (event.Run run at) h = (omega arith, refused run p.handlers p.runs p.queued p.on_runners p.held (is_among run.log p.held) refl h)
 follows_by p event.Beat h = tt
 follows_by p (event.IdleBeat job) h = tt
 follows_by p (event.Kill job) h = tt
-follows_by p (event.Poll runner at) h = tt
+follows_by p (event.Poll runner at) h = free (run_on runner p.on_runners) (ready_front p.queued p.on_runners) h
 follows_by p (event.Finish runner at code text) h = tt
 follows_by p (event.Expire at) h = tt
 follows_by p (event.LogLine runner text) h = line_follows p (run_on runner p.on_runners) text

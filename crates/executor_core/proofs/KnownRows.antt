@@ -1,5 +1,5 @@
 -- The rows of the known logs against what they say.
-use Rattle.std.proofs.Common.{◌≡◌, ℕ, ◌+◌, ◌<◌, ◌≤◌, ◌==◌, Bool, true, false, cond, nat_lt, nat_le, List, [], ◌∷◌, ◌++◌, Some, None, length, get_or, take, drop, map, filter, count_by, position, refl, sym, ap, ◌∙◌, arith, ltb, zero, suc, vec_len, vec_capacity, Result, Ok, Err, OnOk, Option, MatchOption, find, Bor}
+use Rattle.std.proofs.Common.{◌≡◌, ℕ, ◌+◌, ◌<◌, ◌≤◌, ◌==◌, Bool, true, false, cond, nat_lt, nat_le, List, [], ◌∷◌, ◌++◌, Some, None, length, get_or, take, drop, map, filter, count_by, position, refl, sym, ap, ◌∙◌, arith, ltb, zero, suc, vec_len, vec_capacity, Result, Ok, Err, OnOk, Option, MatchOption, find, Bor, not}
 use Rattle.std.proofs.Math.ListN.{set}
 use Rattle.std.specs.List.{position_or_len}
 use Rattle.std.proofs.lemmas.Bool.Decides.{nat_tests}
@@ -10,7 +10,7 @@ use Rattle.std.proofs.Math.Seq.{map-set_same}
 use borrow.Author.Tests.{ltb-false}
 use Rattle.std.specs.Option.{option_map, option_copied}
 use Rattle.executor_history.specs.Past.{Known, known_run, add_line, known_of}
-use Rattle.run_queues.specs.Rising.{RisesBy}
+use Rattle.rising_rows.specs.Rising.{RisesFrom}
 use Rattle.executor_core.specs.declared.known_row.KnownRow.{KnownRow}
 use Rattle.executor_core.specs.Rows.{known_in, LineRoom}
 
@@ -168,21 +168,29 @@ pub short_take : {X : Type 0} (xs : List X) (n m : ℕ) → length xs ≤ n → 
 short_take xs n m h le = take_all n xs h ∙ sym (take_all m xs (omega arith))
 
 -- ---- known logs stay in rising order
-known_step : (log moment low : ℕ) (k : Known) (ks : List Known) (b c : Bool) → (log == k.log) ≡ b → nat_lt log k.log ≡ c → low < log → RisesBy (λ (x : Known). x.log) low (k ∷ ks)
-    → (k.log < log → RisesBy (λ (x : Known). x.log) k.log (known_run log moment ks)) → RisesBy (λ (x : Known). x.log) low (known_run log moment (k ∷ ks))
+known_step : (log moment low : ℕ) (k : Known) (ks : List Known) (b c : Bool) → (log == k.log) ≡ b → nat_lt log k.log ≡ c → low < log → RisesFrom (λ (x : Known). x.log) low (k ∷ ks)
+    → (k.log < log → RisesFrom (λ (x : Known). x.log) k.log (known_run log moment ks)) → RisesFrom (λ (x : Known). x.log) low (known_run log moment (k ∷ ks))
 known_step log moment low k ks true c e f up h step = rw e h
 known_step log moment low k ks false true e f up h step = rw (e, f) (up, (grind (arith, nat_tests), h.1))
 known_step log moment low k ks false false e f up h step = rw (e, f) (h.0, step (grind (arith, nat_tests)))
 
-pub known-rises : (log moment low : ℕ) (ks : List Known) → low < log → RisesBy (λ (x : Known). x.log) low ks → RisesBy (λ (x : Known). x.log) low (known_run log moment ks)
+pub known-rises : (log moment low : ℕ) (ks : List Known) → low < log → RisesFrom (λ (x : Known). x.log) low ks → RisesFrom (λ (x : Known). x.log) low (known_run log moment ks)
 known-rises log moment low [] up h = (up, tt)
 known-rises log moment low (k ∷ ks) up h = known_step log moment low k ks (log == k.log) (nat_lt log k.log) refl refl up h (λ over. known-rises log moment k.log ks over h.1)
 
-lined_step : (log : ℕ) (text : List ℕ) (low : ℕ) (k : Known) (ks : List Known) (b : Bool) → (log == k.log) ≡ b → RisesBy (λ (x : Known). x.log) low (k ∷ ks) → RisesBy (λ (x : Known). x.log) k.log (add_line log text ks)
-    → RisesBy (λ (x : Known). x.log) low (add_line log text (k ∷ ks))
+lined_step : (log : ℕ) (text : List ℕ) (low : ℕ) (k : Known) (ks : List Known) (b : Bool) → (log == k.log) ≡ b → RisesFrom (λ (x : Known). x.log) low (k ∷ ks) → RisesFrom (λ (x : Known). x.log) k.log (add_line log text ks)
+    → RisesFrom (λ (x : Known). x.log) low (add_line log text (k ∷ ks))
 lined_step log text low k ks true e h more = rw e h
 lined_step log text low k ks false e h more = rw e (h.0, more)
 
-pub line-rises : (log : ℕ) (text : List ℕ) (low : ℕ) (ks : List Known) → RisesBy (λ (x : Known). x.log) low ks → RisesBy (λ (x : Known). x.log) low (add_line log text ks)
+pub line-rises : (log : ℕ) (text : List ℕ) (low : ℕ) (ks : List Known) → RisesFrom (λ (x : Known). x.log) low ks → RisesFrom (λ (x : Known). x.log) low (add_line log text ks)
 line-rises log text low [] h = tt
 line-rises log text low (k ∷ ks) h = lined_step log text low k ks (log == k.log) refl h (line-rises log text k.log ks h.1)
+
+-- ---- tests that agree
+len_same : {X : Type 0} (p q : X → Bool) (xs : List X) → ((x : X) → p x ≡ q x) → position_or_len p xs ≡ position_or_len q xs
+len_same p q [] same = refl
+len_same p q (x ∷ xs) same = ap (λ b. cond (not b) (1 + position_or_len p xs) 0) (same x) ∙ ap (λ (n : ℕ). cond (not (q x)) (1 + n) 0) (len_same p q xs same)
+
+pub position_same : {X : Type 0} (p q : X → Bool) (xs : List X) → ((x : X) → p x ≡ q x) → position p xs ≡ position q xs
+position_same p q xs same = ap (λ n. cond (ltb n (length xs)) (Some n) None) (len_same p q xs same)

@@ -1,4 +1,3 @@
-pub mod Puts
 pub mod KnownRows
 pub mod Answered
 pub mod IdKeys

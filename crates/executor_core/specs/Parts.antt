@@ -18,7 +18,6 @@ use Rattle.executor_core.specs.Rows.{LineRoom}
 
 -- how much more goes into each list without memory
 pub record Room : Type 0 where
-  pub on_runners : ℕ
   pub held : ℕ
   pub known : ℕ
   pub callbacks : ℕ
@@ -92,16 +91,17 @@ parts_after p (change.Fail saved) = record p {
 }
 parts_after p change.Reload = record p { waiting = p.waiting ++ p.spooled; spooled = [] }
 
--- a new run has a later number than those before it, and its id is not held
+-- a new run has a later number than those before it, and its id is not held; a run is given to a free runner
 abbrev pub Follows : Parts → Change → Type 0
 Follows p (change.Queue q cover items) = (p.runs < q.run.number) × (is_among q.run.log p.held ≡ false)
+Follows p (change.Poll runner at) = run_on runner p.on_runners ≡ None
 Follows p _ = Unit {0}
 
 -- there is room for all that a change adds
 abbrev pub HasRoomFor : Whole → Change → Type 0
 HasRoomFor w (change.Queue q cover items) = HasRoom q.job w.queues × (1 ≤ w.room.held) × (1 ≤ w.room.known) × (length items ≤ w.room.callbacks)
 HasRoomFor w (change.Kill job items) = length items ≤ w.room.callbacks
-HasRoomFor w (change.Poll runner at) = 1 ≤ w.room.on_runners
+HasRoomFor w (change.Poll runner at) = 1 ≤ w.queues.runners
 HasRoomFor w (change.Finish runner items) = length items ≤ w.room.callbacks
 HasRoomFor w (change.Expire at items) = length items ≤ w.room.callbacks
 HasRoomFor w (change.Line log text) = LineRoom log w.rows

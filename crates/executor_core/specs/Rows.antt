@@ -1,6 +1,6 @@
 -- What the known logs are seen as.
 use Rattle.std.specs.Prelude.{◌<◌, ℕ, ◌==◌, MatchBool, List, [], ◌∷◌, vec_len, vec_capacity}
-use Rattle.run_queues.specs.Rising.{RisesBy}
+use Rattle.rising_rows.specs.Rising.{RisesFrom}
 use Rattle.executor_core.specs.declared.known_row.KnownRow.{KnownRow}
 use Rattle.executor_history.specs.Past.{Known}
 
@@ -20,4 +20,4 @@ pub record RowsView : Type 0 where
 
 -- known logs in rising order of their ids, each once
 abbrev pub IsRising : List Known → Type 0
-IsRising known = RisesBy (λ (k : Known). k.log) 0 known
+IsRising known = RisesFrom (λ (k : Known). k.log) 0 known

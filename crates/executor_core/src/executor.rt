@@ -18,11 +18,11 @@ use super::replies::{
     batch_answer, covers, finish_answer, idle_answer, kept_answer, line_answer, lines_answer,
     poll_answer, run_answer, take_answer,
 };
-use super::runs::{end_runs, enqueue, expire_runs, late_len, leave_runner, working_on};
+use super::runs::{enqueue, late_len};
 use callback_spool::Callbacks;
-use executor_history::{Queued, Working};
+use executor_history::Queued;
 use job_events::{ExecutorEvent, ExecutorReply};
-use job_lane::{QueuedRun, RunnerRun};
+use job_lane::QueuedRun;
 use job_values::{
     CallbackItem, HandlerName, JobId, LogId, LogLine, LogMoment, Moment, NoMemory, Run, RunnerNo,
     Seq,
@@ -37,7 +37,6 @@ pub struct Executor {
     alloc: Global,
     handlers: Seq<HandlerName>,
     queues: Queues,
-    on_runners: Vec<Working>,
     callbacks: Callbacks,
     held: Ids,
     known: KnownLogs,
@@ -55,7 +54,7 @@ impl Model for Executor {
         handlers = e.handlers;
         runs = e.queues.last;
         queued = e.queues.runs;
-        on_runners = e.on_runners.items;
+        on_runners = e.queues.on_runners;
         waiting = e.callbacks.waiting;
         batch = e.callbacks.batch;
         spooled = e.callbacks.spooled;
@@ -65,7 +64,6 @@ impl Model for Executor {
       queues = e.queues;
       rows = e.known.rows;
       room = record {
-        on_runners = vec_capacity e.on_runners - vec_len e.on_runners;
         held = e.held.room;
         known = e.known.room;
         callbacks = e.callbacks.room;
@@ -133,45 +131,13 @@ fn line_change_of(
     alloc: Global,
     runner: RunnerNo,
     line: &LogLine,
-    on_runners: &[Working],
+    queues: &Queues,
 ) -> Result<Change, NoMemory>
-    ensures { IfOk result (λ c. c ≡ line_change (run_on runner on_runners.now) line.now) }
+    ensures { IfOk result (λ c. c ≡ line_change (run_on runner queues.now.on_runners) line.now) }
 {
-    match working_on(runner, on_runners) {
+    match queues.on(runner) {
         None => Ok(Change::Nothing),
         Some(working) => Ok(Change::Line(working.run.log, line.copy(alloc)?)),
-    }
-}
-
-/// The working run of a queued one that a runner is given.
-fn started(runner: RunnerNo, at: Moment, queued: &Queued) -> Working
-    ensures { result ≡ working_run runner at queued.now }
-{
-    Working {
-        job: queued.job,
-        number: queued.run.number,
-        run: RunnerRun {
-            runner,
-            log: queued.run.log,
-            log_moment: queued.run.log_moment,
-            start: at,
-            timeout: queued.run.timeout,
-            ended: false,
-            given: false,
-        },
-    }
-}
-
-/// Gives the ready front to a runner.
-fn give(queues: &mut Queues, on_runners: &mut Vec<Working>, runner: RunnerNo, at: Moment)
-    requires { vec_len on_runners.old < vec_capacity on_runners.old }
-    ensures runs { queues.new.runs ≡ without_first (is_ready on_runners.old.items) queues.old.runs }
-    ensures last { queues.new.last ≡ queues.old.last }
-    ensures on_runners { on_runners.new.items ≡ put_working runner at (ready_front queues.old.runs on_runners.old.items) on_runners.old.items }
-{
-    match queues.take_front(on_runners.as_slice()) {
-        None => {}
-        Some(front) => on_runners.push_reserved(started(runner, at, &front)),
     }
 }
 
@@ -194,7 +160,6 @@ impl Executor {
             alloc,
             handlers,
             queues: Queues::new(alloc),
-            on_runners: Vec::new(alloc),
             callbacks,
             held,
             known: KnownLogs::new(alloc),
@@ -206,32 +171,31 @@ impl Executor {
         ensures { IfOk result (λ r. r ≡ reply_in self.now.parts event.now) }
     {
         let queues = &self.queues;
-        let on_runners = self.on_runners.as_slice();
         match event {
             ExecutorEvent::Run(run, _) => Ok(run_answer(
                 run,
                 self.handlers.as_slice(),
                 queues.last(),
                 queues,
-                on_runners,
                 &self.held,
             )),
             ExecutorEvent::Beat => Ok(ExecutorReply::Done),
-            ExecutorEvent::IdleBeat(job) => Ok(idle_answer(*job, queues, on_runners)),
+            ExecutorEvent::IdleBeat(job) => Ok(idle_answer(*job, queues)),
             ExecutorEvent::Kill(job) => Ok(ExecutorReply::Killed(queues.len_of(*job))),
-            ExecutorEvent::Poll(runner, _) => poll_answer(self.alloc, *runner, queues, on_runners),
+            ExecutorEvent::Poll(runner, _) => poll_answer(self.alloc, *runner, queues),
             ExecutorEvent::Finish(runner, _, code, _) => {
-                Ok(finish_answer(*runner, *code, on_runners))
+                Ok(finish_answer(*runner, *code, queues))
             }
-            ExecutorEvent::Expire(at) => Ok(ExecutorReply::Expired(late_len(*at, on_runners))),
-            ExecutorEvent::LogLine(runner, _) => {
-                Ok(line_answer(*runner, on_runners, &self.known))
+            ExecutorEvent::Expire(at) => {
+                let on_runners = queues.on_runners(self.alloc)?;
+                Ok(ExecutorReply::Expired(late_len(*at, on_runners.as_slice())))
             }
+            ExecutorEvent::LogLine(runner, _) => { Ok(line_answer(*runner, queues, &self.known)) }
             ExecutorEvent::ReadLines(log, first) => {
-                lines_answer(self.alloc, *log, *first, queues, on_runners, &self.known)
+                lines_answer(self.alloc, *log, *first, queues, &self.known)
             }
             ExecutorEvent::Trim(at) => Ok(ExecutorReply::Trimmed(
-                self.known.trimmed_len(*at, &self.held, on_runners),
+                self.known.trimmed_len(*at, &self.held, queues),
             )),
             ExecutorEvent::BatchTake => take_answer(self.alloc, &self.callbacks),
             ExecutorEvent::BatchAck => Ok(batch_answer(&self.callbacks)),
@@ -249,7 +213,6 @@ impl Executor {
         ensures { IfOk result (λ c. c ≡ change_by self.now.parts event.now) }
     {
         let queues = &self.queues;
-        let on_runners = self.on_runners.as_slice();
         match event {
             ExecutorEvent::Run(run, _) => queue_change(self.alloc, run, queues.last(), queues),
             ExecutorEvent::Kill(job) => {
@@ -258,13 +221,13 @@ impl Executor {
             ExecutorEvent::Poll(runner, at) => Ok(Change::Poll(*runner, *at)),
             ExecutorEvent::Finish(runner, _, code, text) => Ok(Change::Finish(
                 *runner,
-                item_of(self.alloc, *runner, *code, text, on_runners)?,
+                item_of(self.alloc, *runner, *code, text, queues)?,
             )),
             ExecutorEvent::Expire(at) => {
-                Ok(Change::Expire(*at, all_expired(self.alloc, *at, on_runners)?))
+                Ok(Change::Expire(*at, all_expired(self.alloc, *at, queues)?))
             }
             ExecutorEvent::LogLine(runner, line) => {
-                line_change_of(self.alloc, *runner, line, on_runners)
+                line_change_of(self.alloc, *runner, line, queues)
             }
             ExecutorEvent::Trim(at) => Ok(Change::Trim(*at)),
             ExecutorEvent::BatchTake => Ok(Change::Take),
@@ -296,15 +259,15 @@ impl Executor {
     {
         match change {
             Change::Queue(new, _, items) => {
-                self.queues.reserve(self.alloc, new.job)?;
                 self.held.reserve()?;
                 self.known.reserve()?;
-                self.callbacks.reserve(items.len())
+                self.callbacks.reserve(items.len())?;
+                self.queues.reserve(self.alloc, new.job)
             }
             Change::Kill(_, items) => self.callbacks.reserve(items.len()),
             Change::Finish(_, items) => self.callbacks.reserve(items.len()),
             Change::Expire(_, items) => self.callbacks.reserve(items.len()),
-            Change::Poll(_, _) => Ok(self.on_runners.reserve(1)?),
+            Change::Poll(_, _) => self.queues.reserve_runner(),
             Change::Line(log, _) => self.known.reserve_line(*log),
             Change::Nothing
             | Change::Trim(_)
@@ -324,9 +287,6 @@ impl Executor {
         let alloc = self.alloc;
         let items = items.into_vec();
         enqueue(new, cover, &mut self.queues);
-        if cover {
-            end_runs(&mut self.on_runners, told.job);
-        }
         self.held.put(told.log);
         self.known.put(alloc, told.log, told.log_moment);
         add_all(&mut self.callbacks, items);
@@ -342,27 +302,24 @@ impl Executor {
             Change::Queue(new, cover, items) => self.queue(new, cover, items),
             Change::Kill(job, items) => {
                 let items = items.into_vec();
-                self.queues.drop_job(job);
+                self.queues.kill(job);
                 self.queues.forget(job);
-                end_runs(&mut self.on_runners, job);
                 add_all(&mut self.callbacks, items);
             }
-            Change::Poll(runner, at) => {
-                give(&mut self.queues, &mut self.on_runners, runner, at);
-            }
+            Change::Poll(runner, at) => self.queues.give(runner, at),
             Change::Finish(runner, items) => {
                 let items = items.into_vec();
-                leave_runner(&mut self.on_runners, runner);
+                self.queues.leave(runner);
                 add_all(&mut self.callbacks, items);
             }
             Change::Expire(at, items) => {
                 let items = items.into_vec();
-                expire_runs(&mut self.on_runners, at);
+                self.queues.expire(at);
                 add_all(&mut self.callbacks, items);
             }
             Change::Line(log, line) => self.known.push_line(log, line),
             Change::Trim(at) => {
-                self.known.trim(at, &self.held, self.on_runners.as_slice());
+                self.known.trim(at, &self.held, &self.queues);
             }
             Change::Take => take_out(&mut self.callbacks),
             Change::Ack => {

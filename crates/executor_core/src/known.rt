@@ -6,10 +6,9 @@ ghost use Rattle.executor_core.specs.Rows.{known_in, LineRoom, IsRising};
 
 use super::ids::Ids;
 use super::known_row::KnownRow;
-use super::runs::on_runner;
-use executor_history::Working;
 use job_values::{LogId, LogLine, LogMoment, Moment, NoMemory};
-use run_queues::place_from;
+use rising_rows::place_from;
+use run_queues::Queues;
 use std::alloc::Global;
 use std::marker::Model;
 
@@ -38,12 +37,7 @@ fn place_of(rows: &[KnownRow], log: LogId) -> Option<usize>
     requires { IsRising (map known_in rows.now) }
     ensures { result ≡ position (λ row. log == row.log) rows.now }
 {
-    let place = place_from(rows, log.get());
-    if place < rows.len() && rows[place].log == log {
-        Some(place)
-    } else {
-        None
-    }
+    rising_rows::place_of(rows, log.get())
 }
 
 /// The row of a log.
@@ -142,25 +136,25 @@ fn put_run(alloc: Global, rows: &mut Vec<KnownRow>, log: LogId, moment: LogMomen
 }
 
 /// Whether a trim at a moment drops a row.
-fn trimmed(row: &KnownRow, at: Moment, held: &Ids, on_runners: &[Working]) -> bool
-    ensures { result ≡ is_trimmed at held.now.ids on_runners.now (known_in row.now) }
+fn trimmed(row: &KnownRow, at: Moment, held: &Ids, queues: &Queues) -> bool
+    ensures { result ≡ is_trimmed at held.now.ids queues.now.on_runners (known_in row.now) }
 {
-    !held.contains(row.log) && (!on_runner(row.log, on_runners) && row.moment.get() < at.get())
+    !held.contains(row.log) && (!queues.has_on(row.log) && row.moment.get() < at.get())
 }
 
 /// Drops the rows that a trim at a moment drops.
-fn drop_trimmed(rows: &mut Vec<KnownRow>, at: Moment, held: &Ids, on_runners: &[Working])
-    ensures { rows.new.items ≡ filter (λ row. not (is_trimmed at held.now.ids on_runners.now (known_in row))) rows.old.items }
+fn drop_trimmed(rows: &mut Vec<KnownRow>, at: Moment, held: &Ids, queues: &Queues)
+    ensures { rows.new.items ≡ filter (λ row. not (is_trimmed at held.now.ids queues.now.on_runners (known_in row))) rows.old.items }
 {
-    rows.retain(|row| !trimmed(row, at, held, on_runners));
+    rows.retain(|row| !trimmed(row, at, held, queues));
 }
 
 /// How many rows a trim at a moment drops.
-fn trimmed_rows(rows: &[KnownRow], at: Moment, held: &Ids, on_runners: &[Working]) -> u64
-    ensures { result ≡ count_by (λ row. is_trimmed at held.now.ids on_runners.now (known_in row)) rows.now }
+fn trimmed_rows(rows: &[KnownRow], at: Moment, held: &Ids, queues: &Queues) -> u64
+    ensures { result ≡ count_by (λ row. is_trimmed at held.now.ids queues.now.on_runners (known_in row)) rows.now }
 {
     rows.iter()
-        .filter(|row| trimmed(row, at, held, on_runners))
+        .filter(|row| trimmed(row, at, held, queues))
         .count() as u64
 }
 
@@ -216,16 +210,16 @@ impl KnownLogs {
     }
 
     /// Drops the logs that are neither held nor on a runner, and whose last run has a moment below this one.
-    pub fn trim(&mut self, at: Moment, held: &Ids, on_runners: &[Working])
-        ensures { map known_in self.new.rows ≡ filter (λ k. not (is_trimmed at held.now.ids on_runners.now k)) (map known_in self.old.rows) }
+    pub fn trim(&mut self, at: Moment, held: &Ids, queues: &Queues)
+        ensures { map known_in self.new.rows ≡ filter (λ k. not (is_trimmed at held.now.ids queues.now.on_runners k)) (map known_in self.old.rows) }
     {
-        drop_trimmed(&mut self.rows, at, held, on_runners);
+        drop_trimmed(&mut self.rows, at, held, queues);
     }
 
     /// How many logs a trim drops.
-    pub fn trimmed_len(&self, at: Moment, held: &Ids, on_runners: &[Working]) -> u64
-        ensures { result ≡ count_by (is_trimmed at held.now.ids on_runners.now) (map known_in self.now.rows) }
+    pub fn trimmed_len(&self, at: Moment, held: &Ids, queues: &Queues) -> u64
+        ensures { result ≡ count_by (is_trimmed at held.now.ids queues.now.on_runners) (map known_in self.now.rows) }
     {
-        trimmed_rows(self.rows.as_slice(), at, held, on_runners)
+        trimmed_rows(self.rows.as_slice(), at, held, queues)
     }
 }

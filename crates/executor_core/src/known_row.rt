@@ -2,7 +2,7 @@
 ghost use Rattle.std.specs.Prelude.{◌≡◌};
 
 use job_values::{LogId, LogLine, LogMoment};
-use run_queues::Keyed;
+use rising_rows::Keyed;
 
 /// A log whose run was accepted, since its lines were last trimmed.
 #[derive(Drop)]

@@ -8,17 +8,18 @@ ghost use Rattle.executor_history.specs.History.{is_refusal};
 ghost use Rattle.executor_history.specs.Runs.{is_cover, is_discard, is_busy, ready_front, run_on};
 ghost use Rattle.executor_history.specs.Replies.{run_reply, idle_reply, poll_reply, given_reply, finish_reply, line_reply, lines_reply, lines_from, take_reply, batch_reply, is_ended, is_full, has_room};
 ghost use Rattle.executor_history.specs.Past.{known_of};
+ghost use Rattle.run_queues.specs.Order.{queued_in};
 ghost use Rattle.executor_core.specs.Rows.{known_in};
 
 use super::add::copy_first;
 use super::ids::Ids;
 use super::items::finish_code;
 use super::known::KnownLogs;
-use super::runs::{busy, ended, working_on};
+use super::runs::{busy, ended};
 use callback_spool::Callbacks;
 use callback_spool::batch::fitting_items;
-use executor_history::{Queued, Working};
 use job_events::{ExecutorRefusal, ExecutorReply, FinishCode, PolledRun, ReadLines};
+use job_lane::QueuedRun;
 use job_values::limits::{FAILURE, HELD_IDS, LINES_READ, LOG_LINES};
 use job_values::{HandlerName, JobId, LineNo, LogId, LogLine, NoMemory, Run, RunnerNo, Seq};
 use run_queues::Queues;
@@ -67,10 +68,9 @@ pub fn run_answer(
     handlers: &[HandlerName],
     runs: u64,
     queues: &Queues,
-    on_runners: &[Working],
     held: &Ids,
 ) -> ExecutorReply
-    ensures { result ≡ run_reply run.now handlers.now runs queues.now.runs on_runners.now held.now.ids }
+    ensures { result ≡ run_reply run.now handlers.now runs queues.now.runs queues.now.on_runners held.now.ids }
 {
     if held.contains(run.log) {
         return ExecutorReply::Refused(ExecutorRefusal::Held(run.log));
@@ -81,7 +81,7 @@ pub fn run_answer(
     if !has_handler(run, handlers) {
         return ExecutorReply::Refused(ExecutorRefusal::NoHandler);
     }
-    if discards(run) && busy(run.job, queues, on_runners) {
+    if discards(run) && busy(run.job, queues) {
         return ExecutorReply::Refused(ExecutorRefusal::Discarded);
     }
     if full(runs, held) {
@@ -94,10 +94,10 @@ pub fn run_answer(
 }
 
 /// The reply of an IdleBeat.
-pub fn idle_answer(job: JobId, queues: &Queues, on_runners: &[Working]) -> ExecutorReply
-    ensures { result ≡ idle_reply (is_busy job queues.now.runs on_runners.now) }
+pub fn idle_answer(job: JobId, queues: &Queues) -> ExecutorReply
+    ensures { result ≡ idle_reply (is_busy job queues.now.runs queues.now.on_runners) }
 {
-    if busy(job, queues, on_runners) {
+    if busy(job, queues) {
         ExecutorReply::Refused(ExecutorRefusal::Running)
     } else {
         ExecutorReply::Done
@@ -105,30 +105,26 @@ pub fn idle_answer(job: JobId, queues: &Queues, on_runners: &[Working]) -> Execu
 }
 
 /// The run that a runner is given.
-fn polled_run(alloc: Global, queued: &Queued) -> Result<PolledRun, NoMemory>
-    ensures { IfOk result (λ run. ExecutorReply.Runs run ≡ given_reply (Some queued.now)) }
+fn polled_run(alloc: Global, job: JobId, run: &QueuedRun) -> Result<PolledRun, NoMemory>
+    ensures { IfOk result (λ polled. ExecutorReply.Runs polled ≡ given_reply (Some (queued_in job run.now))) }
 {
     Ok(PolledRun {
-        log: queued.run.log,
-        job: queued.job,
-        handler: queued.run.handler.copy(alloc)?,
-        param: queued.run.param.copy(alloc)?,
-        index: queued.run.index,
-        total: queued.run.total,
+        log: run.log,
+        job,
+        handler: run.handler.copy(alloc)?,
+        param: run.param.copy(alloc)?,
+        index: run.index,
+        total: run.total,
     })
 }
 
 /// The reply of a Poll by a free runner.
-fn given_answer(
-    alloc: Global,
-    queues: &Queues,
-    on_runners: &[Working],
-) -> Result<ExecutorReply, NoMemory>
-    ensures { IfOk result (λ r. r ≡ given_reply (ready_front queues.now.runs on_runners.now)) }
+fn given_answer(alloc: Global, queues: &Queues) -> Result<ExecutorReply, NoMemory>
+    ensures { IfOk result (λ r. r ≡ given_reply (ready_front queues.now.runs queues.now.on_runners)) }
 {
-    match queues.front(on_runners) {
+    match queues.front() {
         None => Ok(ExecutorReply::Refused(ExecutorRefusal::Nothing)),
-        Some(run) => Ok(ExecutorReply::Runs(polled_run(alloc, run)?)),
+        Some((job, run)) => Ok(ExecutorReply::Runs(polled_run(alloc, job, run)?)),
     }
 }
 
@@ -137,21 +133,20 @@ pub fn poll_answer(
     alloc: Global,
     runner: RunnerNo,
     queues: &Queues,
-    on_runners: &[Working],
 ) -> Result<ExecutorReply, NoMemory>
-    ensures { IfOk result (λ r. r ≡ poll_reply (run_on runner on_runners.now) (ready_front queues.now.runs on_runners.now)) }
+    ensures { IfOk result (λ r. r ≡ poll_reply (run_on runner queues.now.on_runners) (ready_front queues.now.runs queues.now.on_runners)) }
 {
-    match working_on(runner, on_runners) {
-        None => given_answer(alloc, queues, on_runners),
+    match queues.on(runner) {
+        None => given_answer(alloc, queues),
         Some(working) => Ok(ExecutorReply::Refused(ExecutorRefusal::RunnerBusy(working.run.log))),
     }
 }
 
 /// The reply of a Finish.
-pub fn finish_answer(runner: RunnerNo, code: FinishCode, on_runners: &[Working]) -> ExecutorReply
-    ensures { result ≡ finish_reply code (run_on runner on_runners.now) }
+pub fn finish_answer(runner: RunnerNo, code: FinishCode, queues: &Queues) -> ExecutorReply
+    ensures { result ≡ finish_reply code (run_on runner queues.now.on_runners) }
 {
-    match working_on(runner, on_runners) {
+    match queues.on(runner) {
         None => ExecutorReply::Refused(ExecutorRefusal::NotRunning),
         Some(working) => {
             if working.run.given {
@@ -219,10 +214,10 @@ pub fn kept_answer(alloc: Global, callbacks: &Callbacks) -> Result<ExecutorReply
 }
 
 /// The reply of a LogLine.
-pub fn line_answer(runner: RunnerNo, on_runners: &[Working], known: &KnownLogs) -> ExecutorReply
-    ensures { result ≡ line_reply (run_on runner on_runners.now) (map known_in known.now.rows) }
+pub fn line_answer(runner: RunnerNo, queues: &Queues, known: &KnownLogs) -> ExecutorReply
+    ensures { result ≡ line_reply (run_on runner queues.now.on_runners) (map known_in known.now.rows) }
 {
-    match working_on(runner, on_runners) {
+    match queues.on(runner) {
         None => ExecutorReply::Refused(ExecutorRefusal::NotRunning),
         Some(working) => {
             if takes_line(known, working.run.log) {
@@ -268,10 +263,9 @@ pub fn lines_answer(
     log: LogId,
     first: LineNo,
     queues: &Queues,
-    on_runners: &[Working],
     known: &KnownLogs,
 ) -> Result<ExecutorReply, NoMemory>
-    ensures { IfOk result (λ r. r ≡ lines_reply (max first 1) (is_ended log queues.now.runs on_runners.now) (known_of log (map known_in known.now.rows))) }
+    ensures { IfOk result (λ r. r ≡ lines_reply (max first 1) (is_ended log queues.now.runs queues.now.on_runners) (known_of log (map known_in known.now.rows))) }
 {
     let from = u64::from(first.get()).max(1);
     match known.find(log) {
@@ -281,7 +275,7 @@ pub fn lines_answer(
             Ok(ExecutorReply::Lines(ReadLines {
                 from,
                 to: from - 1 + lines.len() as u64,
-                is_end: ended(log, queues, on_runners),
+                is_end: ended(log, queues),
                 lines,
             }))
         }

@@ -4,12 +4,11 @@ use Rattle.std.specs.List.{list_any}
 use Rattle.job_values.specs.declared.run.Run.{Run}
 use Rattle.job_values.specs.declared.run.CallbackItem.{CallbackItem}
 use Rattle.job_events.specs.declared.executor.ExecutorEvent.TheVariants as event
-use Rattle.job_lane.specs.Runs.{without_first}
+use Rattle.job_lane.specs.Runs.{without_first, put_before}
 use Rattle.callback_spool.specs.Batches.{batch_len}
 use Rattle.executor_history.specs.declared.records.Queued.{Queued}
 use Rattle.executor_history.specs.declared.records.Working.{Working}
 use Rattle.executor_history.specs.History.{History, Opening, After, handlers}
-use Rattle.executor_history.specs.Lists.{put_before}
 use Rattle.executor_history.specs.Runs.{is_cover, queued_run, is_queued_of, is_ready, ready_front, is_on, run_on, ended_of, expired_of, put_working}
 use Rattle.executor_history.specs.Items.{killed_items, expired_items, finished_items}
 

@@ -1,10 +1,10 @@
 -- What is said of the runs of an executor, queued and on runners.
-use Rattle.std.specs.Prelude.{ℕ, Bool, not, ◌&&◌, ◌||◌, ◌==◌, codes, if◌then◌else◌, List, [], ◌∷◌, ◌++◌, Option, None, Some, find}
+use Rattle.std.specs.Prelude.{ℕ, Bool, not, ◌&&◌, ◌||◌, ◌==◌, codes, if◌then◌else◌, List, Option, None, Some, find, nat_lt}
 use Rattle.std.specs.List.{list_any}
 use Rattle.std.specs.Str.{bytes_eq}
 use Rattle.job_values.specs.declared.run.Run.{Run}
 use Rattle.job_lane.specs.declared.runs.QueuedRun.{QueuedRun}
-use Rattle.job_lane.specs.Runs.{is_running, is_overdue, ended_run, expired_run, started_run}
+use Rattle.job_lane.specs.Runs.{is_running, is_overdue, ended_run, expired_run, started_run, put_before}
 use Rattle.executor_history.specs.declared.records.Queued.{Queued}
 use Rattle.executor_history.specs.declared.records.Working.{Working}
 
@@ -75,6 +75,7 @@ is_late at working = is_overdue at working.run
 abbrev pub working_run : ℕ → ℕ → Queued → Working
 working_run runner at queued = record { job = queued.job; number = queued.run.number; run = started_run runner at queued.run }
 
+-- the runs that are on runners stand in order of the runners
 abbrev pub put_working : ℕ → ℕ → Option Queued → List Working → List Working
 put_working runner at None on_runners = on_runners
-put_working runner at (Some queued) on_runners = on_runners ++ working_run runner at queued ∷ []
+put_working runner at (Some queued) on_runners = put_before (λ w. nat_lt runner w.run.runner) (working_run runner at queued) on_runners

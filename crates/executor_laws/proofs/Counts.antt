@@ -1,5 +1,5 @@
 -- What a run was given, and what it can still be given, is one together.
-use Rattle.std.proofs.Common.{◌≡◌, ℕ, ◌+◌, ◌<◌, ◌≤◌, Bool, true, false, not, ◌&&◌, ◌==◌, if◌then◌else◌, List, Option, None, Some, map, filter, refl, sym, ap, ◌∙◌, arith}
+use Rattle.std.proofs.Common.{◌≡◌, ℕ, ◌+◌, ◌<◌, ◌≤◌, nat_lt, Bool, true, false, not, ◌&&◌, ◌==◌, if◌then◌else◌, List, Option, None, Some, map, filter, refl, sym, ap, ◌∙◌, arith}
 use Rattle.std.proofs.lemmas.Bool.{false≢true}
 use Rattle.std.proofs.lemmas.Bool.Decides.{nat_tests}
 use Rattle.job_values.specs.declared.run.Run.{Run}
@@ -13,7 +13,7 @@ use Rattle.executor_history.specs.History.{History, Opening, After}
 use Rattle.executor_history.specs.Runs.{is_cover, is_queued_of, is_late, is_on, is_ready, ready_front, run_on, ended_of, expired_of, put_working, working_run, queued_run}
 use Rattle.executor_history.specs.Past.{queued, on_runners, run_count}
 use Rattle.executor_laws.specs.Given.{times}
-use Rattle.executor_laws.proofs.Times.{times-push, times-split, once_if, times-without, times-map, times-map_split}
+use Rattle.executor_laws.proofs.Times.{times-push, times-put, times-split, once_if, times-without, times-map, times-map_split}
 
 -- a queued run with this number
 abbrev pub is_numbered : ℕ → Queued → Bool
@@ -81,7 +81,7 @@ and_true false = refl
 put_open : (n runner at : ℕ) (o : Option Queued) (ws : List Working) → times (is_open n) (put_working runner at o ws) ≡ times (is_open n) ws + once_if (is_numbered n) o
 put_open n runner at None ws = omega arith
 put_open n runner at (Some q) ws =
-    times-push (is_open n) ws (working_run runner at q) ∙ ap (λ (b : Bool). times (is_open n) ws + (if b then 1 else 0)) (and_true (n == q.run.number))
+    times-put (is_open n) (λ (w : Working). nat_lt runner w.run.runner) (working_run runner at q) ws ∙ ap (λ (b : Bool). times (is_open n) ws + (if b then 1 else 0)) (and_true (n == q.run.number))
 
 open_once : (n : ℕ) (o : Option Working) → open_on n o ≡ once_if (is_open n) o
 open_once n None = refl

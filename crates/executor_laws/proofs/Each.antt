@@ -2,8 +2,7 @@
 use Rattle.std.proofs.Common.{◌≡◌, ℕ, zero, suc, Bool, true, false, List, [], ◌∷◌, ◌++◌, Option, None, Some, map, filter, find, take, drop, refl, ap, arith}
 use Rattle.std.specs.List.{AllByRecursion as Each}
 use Rattle.executor_laws.specs.Given.{times}
-use Rattle.job_lane.specs.Runs.{without_first}
-use Rattle.executor_history.specs.Lists.{put_before}
+use Rattle.job_lane.specs.Runs.{without_first, put_before}
 
 pub each-append : {X : Type 0} (P : X → Type 0) (xs ys : List X) → Each P xs → Each P ys → Each P (xs ++ ys)
 each-append P [] ys a b = b

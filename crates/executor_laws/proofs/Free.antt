@@ -1,5 +1,5 @@
 -- A Poll is by a free runner, so a runner has at most one run.
-use Rattle.std.proofs.Common.{◌≡◌, ℕ, ◌+◌, ◌≤◌, ◌==◌, Bool, true, false, if◌then◌else◌, List, Option, None, Some, refl, sym, arith}
+use Rattle.std.proofs.Common.{◌≡◌, ℕ, ◌+◌, ◌≤◌, ◌==◌, nat_lt, Bool, true, false, if◌then◌else◌, List, Option, None, Some, refl, sym, arith}
 use Rattle.std.proofs.lemmas.Bool.{false≢true}
 use Rattle.std.proofs.lemmas.Bool.Decides.{nat_tests}
 use Rattle.job_values.specs.declared.run.Run.{Run}
@@ -15,7 +15,7 @@ use Rattle.executor_history.specs.Past.{queued, on_runners, left_working}
 use Rattle.executor_history.specs.Replies.{poll_reply, reply_of}
 use Rattle.executor_history.specs.Legal.{IsLegal}
 use Rattle.executor_laws.specs.Given.{times}
-use Rattle.executor_laws.proofs.Times.{times-push, times-without, times-map}
+use Rattle.executor_laws.proofs.Times.{times-put, times-without, times-map}
 use Rattle.executor_laws.proofs.Each.{not-found}
 
 abbrev pub Free : History → Type 0
@@ -68,7 +68,7 @@ put_case n runner at q ws false e most none = rw e (omega (arith, most))
 
 put_on : (n runner at : ℕ) (o : Option Queued) (ws : List Working) → times (is_on n) ws ≤ 1 → run_on runner ws ≡ None → times (is_on n) (put_working runner at o ws) ≤ 1
 put_on n runner at None ws most free = most
-put_on n runner at (Some q) ws most free = rw (times-push (is_on n) ws (working_run runner at q)) (put_case n runner at q ws (n == runner) refl most (not-found (is_on runner) ws free))
+put_on n runner at (Some q) ws most free = rw (times-put (is_on n) (λ (w : Working). nat_lt runner w.run.runner) (working_run runner at q) ws) (put_case n runner at q ws (n == runner) refl most (not-found (is_on runner) ws free))
 
 pub one_on : (h : History) → Free h → (n : ℕ) → times (is_on n) (on_runners h) ≤ 1
 one_on (Opening names kept) free n = omega arith

@@ -1,5 +1,5 @@
 -- Each item of an executor that began without kept items is the result of a run.
-use Rattle.std.proofs.Common.{◌≡◌, ℕ, ◌+◌, ◌≤◌, ◌==◌, Bool, true, false, not, if◌then◌else◌, List, [], ◌∷◌, ◌++◌, Option, None, Some, map, filter, refl, sym, ap, ◌∙◌, subst, arith, append_assoc, append-nil}
+use Rattle.std.proofs.Common.{◌≡◌, ℕ, ◌+◌, ◌≤◌, ◌==◌, nat_lt, Bool, true, false, not, if◌then◌else◌, List, [], ◌∷◌, ◌++◌, Option, None, Some, map, filter, refl, sym, ap, ◌∙◌, subst, arith, append_assoc, append-nil}
 use Rattle.std.proofs.lemmas.Bool.Decides.{nat_tests}
 use Rattle.std.proofs.lemmas.List.Elements.{Contains-append_left, Contains-append_right}
 use Rattle.std.specs.List.{AllByRecursion as Each, Contains}
@@ -117,7 +117,7 @@ new_known h run at r = record {
 
 put_works : (h : History) (runner at : ℕ) (o : Option Queued) (ws : List Working) → IfFound (λ q. Known h q.run.number q.run.log) o → Each (λ w. Known h w.number w.run.log) ws → Each (λ w. Known h w.number w.run.log) (put_working runner at o ws)
 put_works h runner at None ws found all = all
-put_works h runner at (Some q) ws found all = each-append (λ w. Known h w.number w.run.log) ws (working_run runner at q ∷ []) all (found, tt)
+put_works h runner at (Some q) ws found all = each-put (λ w. Known h w.number w.run.log) (λ (w : Working). nat_lt runner w.run.runner) (working_run runner at q) ws found all
 
 -- the results so far and those of an event
 gave_more : (h : History) (rs more : List RunItem) → Each (λ x. Known h x.number x.item.log) rs → Each (λ x. Known h x.number x.item.log) more → Each (λ x. Known h x.number x.item.log) (rs ++ more)

@@ -1,5 +1,5 @@
 -- A lane has at most one run that runs.
-use Rattle.std.proofs.Common.{◌≡◌, ℕ, ◌+◌, ◌≤◌, ◌==◌, Bool, true, false, not, ◌&&◌, ◌||◌, if◌then◌else◌, List, [], ◌∷◌, Option, None, Some, map, refl, sym, arith}
+use Rattle.std.proofs.Common.{◌≡◌, ℕ, ◌+◌, ◌≤◌, ◌==◌, nat_lt, Bool, true, false, not, ◌&&◌, ◌||◌, if◌then◌else◌, List, [], ◌∷◌, Option, None, Some, map, refl, sym, arith}
 use Rattle.std.proofs.lemmas.Bool.{false≢true}
 use Rattle.std.proofs.lemmas.Bool.Decides.{nat_tests}
 use Rattle.std.specs.List.{list_any}
@@ -12,7 +12,7 @@ use Rattle.executor_history.specs.History.{History, Opening, After}
 use Rattle.executor_history.specs.Runs.{is_cover, is_on, is_ready, is_running_of, ready_front, ended_of, expired_of, put_working, working_run}
 use Rattle.executor_history.specs.Past.{queued, on_runners, left_working}
 use Rattle.executor_laws.specs.Given.{times}
-use Rattle.executor_laws.proofs.Times.{times-push, times-without}
+use Rattle.executor_laws.proofs.Times.{times-put, times-without}
 use Rattle.executor_laws.proofs.Each.{IfFound, found-passes}
 
 fewer_step : (a b : Bool) (n m : ℕ) → (a ≡ true → b ≡ true) → n ≤ m → (if a then 1 else 0) + n ≤ (if b then 1 else 0) + m
@@ -68,7 +68,7 @@ put_step job runner at q ws false e none most = rw e (omega (arith, most))
 put_lanes : (job runner at : ℕ) (o : Option Queued) (ws : List Working) → IfFound (λ q. is_ready ws q ≡ true) o → times (is_running_of job) ws ≤ 1 → times (is_running_of job) (put_working runner at o ws) ≤ 1
 put_lanes job runner at None ws ready most = most
 put_lanes job runner at (Some q) ws ready most =
-    rw (times-push (is_running_of job) ws (working_run runner at q)) (put_step job runner at q ws (job == q.job) refl (none_any (is_running_of q.job) ws (not_true (list_any (is_running_of q.job) ws) ready)) most)
+    rw (times-put (is_running_of job) (λ (w : Working). nat_lt runner w.run.runner) (working_run runner at q) ws) (put_step job runner at q ws (job == q.job) refl (none_any (is_running_of q.job) ws (not_true (list_any (is_running_of q.job) ws) ready)) most)
 
 pub one_runs : (h : History) (job : ℕ) → times (is_running_of job) (on_runners h) ≤ 1
 one_runs (Opening names kept) job = omega arith

@@ -4,7 +4,6 @@ use Rattle.job_values.specs.declared.run.Run.{Run}
 use Rattle.job_events.specs.declared.executor.FinishCode.{FinishCode}
 use Rattle.job_events.specs.declared.executor.ExecutorEvent.TheVariants as event
 use Rattle.job_events.specs.declared.executor.ExecutorEvent.{ExecutorEvent}
-use Rattle.executor_history.specs.Lists.{put_before}
 use Rattle.executor_history.specs.declared.records.Queued.{Queued}
 use Rattle.executor_history.specs.declared.records.Working.{Working}
 use Rattle.executor_history.specs.History.{History, Opening, After}
@@ -12,6 +11,7 @@ use Rattle.executor_history.specs.Runs.{is_cover, is_queued_of, is_late, run_on}
 use Rattle.executor_history.specs.Items.{put_all, by_number, put_by_number}
 use Rattle.executor_history.specs.Past.{queued, on_runners}
 use Rattle.executor_laws.specs.Given.{times, RunItem, killed_run, killed_runs, covered_runs, expired_working, finished_runs, gives, given}
+use Rattle.executor_laws.proofs.Times.{times-put}
 use Rattle.executor_laws.proofs.Counts.{is_numbered, open_on, gives_times, given_times, holds}
 
 append-step : {X : Type 0} (p : X → Bool) (x : X) (xs ys : List X) → times p (xs ++ ys) ≡ times p xs + times p ys → times p ((x ∷ xs) ++ ys) ≡ times p (x ∷ xs) + times p ys
@@ -34,14 +34,6 @@ filter-step p q x xs false e h = rw e (h ∙ sym (zero-plus (times (λ y. q y &&
 times-filter : {X : Type 0} (p q : X → Bool) (xs : List X) → times p (filter q xs) ≡ times (λ y. q y && p y) xs
 times-filter p q [] = refl
 times-filter p q (x ∷ xs) = filter-step p q x xs (q x) refl (times-filter p q xs)
-
-put-step : {X : Type 0} (p c : X → Bool) (x y : X) (ys : List X) (b : Bool) → c y ≡ b → times p (put_before c x ys) ≡ (if p x then 1 else 0) + times p ys → times p (put_before c x (y ∷ ys)) ≡ (if p x then 1 else 0) + times p (y ∷ ys)
-put-step p c x y ys true e h = rw e refl
-put-step p c x y ys false e h = rw e (omega (arith, h))
-
-times-put : {X : Type 0} (p c : X → Bool) (x : X) (ys : List X) → times p (put_before c x ys) ≡ (if p x then 1 else 0) + times p ys
-times-put p c x [] = refl
-times-put p c x (y ∷ ys) = put-step p c x y ys (c y) refl (times-put p c x ys)
 
 times-put_all : (p : Working → Bool) (ws sorted : List Working) → times p (put_all ws sorted) ≡ times p ws + times p sorted
 times-put_all p [] sorted = omega arith

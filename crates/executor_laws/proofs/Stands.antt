@@ -1,5 +1,5 @@
 -- In a history whose Polls are by free runners, each run that waits or is on a runner stands as the entries say.
-use Rattle.std.proofs.Common.{◌≡◌, ℕ, ◌+◌, ◌≤◌, ◌==◌, Bool, true, false, not, ◌&&◌, if◌then◌else◌, List, [], ◌∷◌, Option, None, Some, filter, find, refl, ap, ◌∙◌, arith}
+use Rattle.std.proofs.Common.{◌≡◌, ℕ, ◌+◌, ◌≤◌, ◌==◌, nat_lt, Bool, true, false, not, ◌&&◌, if◌then◌else◌, List, [], ◌∷◌, Option, None, Some, filter, find, refl, ap, ◌∙◌, arith}
 use Rattle.std.specs.List.{AllByRecursion as Each}
 use Rattle.job_values.specs.declared.run.Run.{Run}
 use Rattle.job_events.specs.declared.executor.ExecutorEvent.{ExecutorEvent}
@@ -14,7 +14,7 @@ use Rattle.executor_history.specs.Past.{queued, on_runners, run_count, left_queu
 use Rattle.executor_laws.specs.Given.{times}
 use Rattle.executor_laws.specs.Results.{first_of, run_at, Start, started_by, started_of, is_of, ends, is_ended, runner_result, result_of}
 use Rattle.executor_laws.proofs.Times.{times-without, once_if}
-use Rattle.executor_laws.proofs.Each.{each-append, each-weaker, each-map, each-kept, each-both, each-without, IfFound, each-find, times-none}
+use Rattle.executor_laws.proofs.Each.{each-append, each-put, each-weaker, each-map, each-kept, each-both, each-without, IfFound, each-find, times-none}
 use Rattle.executor_laws.proofs.Counts.{is_numbered, holds}
 use Rattle.executor_laws.proofs.Free.{Free, one_on}
 use Rattle.executor_laws.proofs.Standing.{Waits, Works, start_of, equal_of, run_above, ends_none, no_more, end_kept, and_false, same, waits_after, works_after, waits_of, works_of, not_true, ended_works, expired_works}
@@ -88,20 +88,19 @@ polled_start runner at q first o e is = rw (e, is) (rw (same q.run.number) refl)
 polled_works : (h : History) (runner at : ℕ) (r : ExecutorReply) (o : Option Queued) (ws : List Working) → ready_front (queued h) (on_runners h) ≡ o → IfFound (Waits h) o → Each (Works (After h (event.Poll runner at) r)) ws → Each (Works (After h (event.Poll runner at) r)) (put_working runner at o ws)
 polled_works h runner at r None ws is w all = all
 polled_works h runner at r (Some q) ws is w all =
-    each-append (Works (After h (event.Poll runner at) r)) ws (working_run runner at q ∷ []) all (
-      record {
-        run = w.run;
-        is_run = w.is_run;
-        of_job = w.of_job;
-        of_log = w.of_log;
-        of_timeout = w.of_timeout;
-        below = w.below;
-        started = polled_start runner at q (started_of h q.run.number) (ready_front (queued h) (on_runners h)) w.no_start is;
-        as_ended = λ ungiven. w.no_end;
-        no_result = λ ungiven. no_more (event.Poll runner at) (run_at h q.run.number) (result_of h q.run.number) (started_of h q.run.number) (is_ended h q.run.number) w.no_result w.no_start refl;
-      },
-      tt,
-    )
+    each-put (Works (After h (event.Poll runner at) r)) (λ (w : Working). nat_lt runner w.run.runner) (working_run runner at q) ws (
+    record {
+      run = w.run;
+      is_run = w.is_run;
+      of_job = w.of_job;
+      of_log = w.of_log;
+      of_timeout = w.of_timeout;
+      below = w.below;
+      started = polled_start runner at q (started_of h q.run.number) (ready_front (queued h) (on_runners h)) w.no_start is;
+      as_ended = λ ungiven. w.no_end;
+      no_result = λ ungiven. no_more (event.Poll runner at) (run_at h q.run.number) (result_of h q.run.number) (started_of h q.run.number) (is_ended h q.run.number) w.no_result w.no_start refl;
+    }
+    ) all
 
 -- ---- a Run
 cover_false : (b c : Bool) → b ≡ false → (b && c) ≡ false

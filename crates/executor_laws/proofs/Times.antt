@@ -1,11 +1,20 @@
 -- How counts change with a list.
 use Rattle.std.proofs.Common.{◌≡◌, ℕ, ◌+◌, Bool, true, false, not, ◌&&◌, if◌then◌else◌, List, [], ◌∷◌, ◌++◌, Option, None, Some, map, filter, find, refl, ap, arith}
-use Rattle.job_lane.specs.Runs.{without_first}
+use Rattle.job_lane.specs.Runs.{without_first, put_before}
 use Rattle.executor_laws.specs.Given.{times}
 
 pub times-push : {X : Type 0} (p : X → Bool) (xs : List X) (x : X) → times p (xs ++ x ∷ []) ≡ times p xs + (if p x then 1 else 0)
 times-push p [] x = omega arith
 times-push p (y ∷ ys) x = omega (arith, times-push p ys x)
+
+put_step : {X : Type 0} (p c : X → Bool) (x y : X) (ys : List X) (b : Bool) → c y ≡ b → times p (put_before c x ys) ≡ times p ys + (if p x then 1 else 0) → times p (put_before c x (y ∷ ys)) ≡ times p (y ∷ ys) + (if p x then 1 else 0)
+put_step p c x y ys true e h = rw e (omega arith)
+put_step p c x y ys false e h = rw e (omega (arith, h))
+
+-- wherever the element is put
+pub times-put : {X : Type 0} (p c : X → Bool) (x : X) (ys : List X) → times p (put_before c x ys) ≡ times p ys + (if p x then 1 else 0)
+times-put p c x [] = omega arith
+times-put p c x (y ∷ ys) = put_step p c x y ys (c y) refl (times-put p c x ys)
 
 split_step : {X : Type 0} (j n : X → Bool) (x : X) (xs : List X) (bj bn : Bool) → j x ≡ bj → n x ≡ bn → times n (filter (λ y. not (j y)) xs) + times (λ y. j y && n y) xs ≡ times n xs → times n (filter (λ y. not (j y)) (x ∷ xs)) + times (λ y. j y && n y) (x ∷ xs) ≡ times n (x ∷ xs)
 split_step j n x xs true true ej en h = rw (ej, en) (omega (arith, h))

@@ -47,7 +47,3 @@ nowhere_of p xs e = nowhere_by p xs (ltb-false _ _ (none_from (ltb (position_or_
 
 pub found_of : {X : Type 0} (p : X → Bool) (xs : List X) (i : ℕ) (d : X) → position p xs ≡ Some i → FoundAt p xs i d
 found_of p xs i d e = let at = position-Some p xs i d e in found_at p xs i d at.0 at.1 at.2
-
-pub found_some : {X : Type 0} (p : X → Bool) (xs : List X) (i : ℕ) → position p xs ≡ Some i → IsSome (find p xs)
-found_some p [] i e = absurd cc
-found_some p (x ∷ xs) i e = rw (found_of p (x ∷ xs) i x e).found refl

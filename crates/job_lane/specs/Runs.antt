@@ -37,6 +37,11 @@ abbrev pub without_first : {X : Type 0} → (X → Bool) → List X → List X
 without_first p [] = []
 without_first p (x ∷ xs) = if p x then xs else x ∷ without_first p xs
 
+-- an element put before the first one that passes, else at the end
+abbrev pub put_before : {X : Type 0} → (X → Bool) → X → List X → List X
+put_before p x [] = x ∷ []
+put_before p x (y ∷ ys) = if p y then x ∷ y ∷ ys else y ∷ put_before p x ys
+
 -- the runs without the first one that is on this runner
 abbrev pub without_runner : ℕ → List RunnerRun → List RunnerRun
 without_runner runner runs = without_first (λ run. runner == run.runner) runs

@@ -1,7 +1,8 @@
 //! A lane: the queue of a job, and its runs on runners.
-ghost use Rattle.std.specs.Prelude.{◌≡◌, ◌+◌, ◌<◌, ◌≤◌, ◌==◌, [], ◌∷◌, ◌++◌, length, map, count_by, find, position, OnOk, OnErr, IsTrue, IsSome, MatchBool, None, if◌then◌else◌, vec_len, vec_capacity};
+ghost use Rattle.std.specs.Prelude.{◌≡◌, ◌+◌, ◌<◌, ◌≤◌, ◌==◌, nat_lt, [], ◌∷◌, ◌++◌, length, map, count_by, find, position, OnOk, OnErr, IsTrue, IsSome, MatchBool, None, if◌then◌else◌, vec_len, vec_capacity};
 ghost use Rattle.std.specs.List.{list_any};
-ghost use Rattle.job_lane.specs.Runs.{is_running, is_overdue, ended_run, expired_run, without_runner};
+ghost use Rattle.std.specs.Option.{option_copied};
+ghost use Rattle.job_lane.specs.Runs.{is_running, is_overdue, ended_run, expired_run, without_runner, put_before, started_run};
 ghost use Rattle.job_lane.specs.Lanes.{runs, front_of, queue_polled, put_started};
 
 use super::runs::{QueuedRun, RunnerRun};
@@ -11,7 +12,7 @@ use std::alloc::Global;
 use std::collections::VecDeque;
 use std::marker::Model;
 
-/// The runs of a job: those that wait, in order of acceptance, and those on runners, in the order in which they were given.
+/// The runs of a job: those that wait, in order of acceptance, and those on runners, in order of the runners.
 #[derive(Drop)]
 pub struct Lane {
     job: JobId,
@@ -50,14 +51,11 @@ fn place_of(on_runners: &[RunnerRun], runner: RunnerNo) -> Option<usize>
     on_runners.iter().position(|run| runner == run.runner)
 }
 
-/// Whether a runner has one of these runs.
-fn has_runner(on_runners: &[RunnerRun], runner: RunnerNo) -> bool
-    ensures { MatchBool result (IsSome (find (λ run. runner == run.runner) on_runners.now)) (find (λ run. runner == run.runner) on_runners.now ≡ None) }
+/// The run of a runner among these.
+fn run_of(on_runners: &[RunnerRun], runner: RunnerNo) -> Option<&RunnerRun>
+    ensures { option_copied result ≡ find (λ run. runner == run.runner) on_runners.now }
 {
-    match place_of(on_runners, runner) {
-        None => false,
-        Some(_) => true,
-    }
+    on_runners.iter().find(|run| runner == run.runner)
 }
 
 /// Takes the run of a runner out of these, if it is there.
@@ -70,6 +68,30 @@ fn take_runner(on_runners: &mut Vec<RunnerRun>, runner: RunnerNo) -> Option<Runn
     match place_of(on_runners.as_slice(), runner) {
         None => None,
         Some(place) => Some(on_runners.remove(place)),
+    }
+}
+
+/// The place of the first run on a later runner.
+fn place_behind(on_runners: &[RunnerRun], runner: RunnerNo) -> Option<usize>
+    ensures { result ≡ position (λ run. nat_lt runner run.runner) on_runners.now }
+{
+    on_runners
+        .iter()
+        .position(|run| runner.get() < run.runner.get())
+}
+
+/// Puts a run before those on later runners. There is room for it.
+fn put_run(on_runners: &mut Vec<RunnerRun>, new: RunnerRun)
+    requires { vec_len on_runners.old < vec_capacity on_runners.old }
+    ensures items { on_runners.new.items ≡ put_before (λ run. nat_lt new.runner run.runner) new on_runners.old.items }
+    ensures len { vec_len on_runners.new ≡ vec_len on_runners.old + 1 }
+    ensures capacity { vec_capacity on_runners.new ≡ vec_capacity on_runners.old }
+{
+    match place_behind(on_runners.as_slice(), new.runner) {
+        None => on_runners.push_reserved(new),
+        Some(place) => {
+            let _put = on_runners.insert(place, new);
+        }
     }
 }
 
@@ -87,6 +109,21 @@ fn count_overdue(on_runners: &[RunnerRun], now: Moment) -> u64
     ensures { result ≡ count_by (is_overdue now) on_runners.now }
 {
     on_runners.iter().filter(|run| overdue(run, now)).count() as u64
+}
+
+/// The run as a runner starts it.
+fn started(run: &QueuedRun, runner: RunnerNo, now: Moment) -> RunnerRun
+    ensures { result ≡ started_run runner now run.now }
+{
+    RunnerRun {
+        runner,
+        log: run.log,
+        log_moment: run.log_moment,
+        start: now,
+        timeout: run.timeout,
+        ended: false,
+        given: false,
+    }
 }
 
 /// The run, ended if it runs.
@@ -186,11 +223,31 @@ impl Lane {
         self.on_runners.as_slice()
     }
 
+    /// Whether a run of it runs.
+    pub fn is_running(&self) -> bool
+        ensures { result ≡ runs self.now.on_runners }
+    {
+        some_running(self.on_runners.as_slice())
+    }
+
+    /// The run that a runner has here.
+    pub fn on(&self, runner: RunnerNo) -> Option<RunnerRun>
+        ensures { result ≡ find (λ run. runner == run.runner) self.now.on_runners }
+    {
+        match run_of(self.on_runners.as_slice(), runner) {
+            None => None,
+            Some(run) => Some(*run),
+        }
+    }
+
     /// Whether a runner has a run here.
     pub fn has(&self, runner: RunnerNo) -> bool
         ensures { MatchBool result (IsSome (find (λ run. runner == run.runner) self.now.on_runners)) (find (λ run. runner == run.runner) self.now.on_runners ≡ None) }
     {
-        has_runner(self.on_runners.as_slice(), runner)
+        match self.on(runner) {
+            None => false,
+            Some(_) => true,
+        }
     }
 
     /// Gives the front run to a runner, where the lane is ready: no run of it runs, and one waits. It takes no memory.
@@ -206,15 +263,7 @@ impl Lane {
             return None;
         }
         let run = self.queue.pop_front()?;
-        self.on_runners.push_reserved(RunnerRun {
-            runner,
-            log: run.log,
-            log_moment: run.log_moment,
-            start: now,
-            timeout: run.timeout,
-            ended: false,
-            given: false,
-        });
+        put_run(&mut self.on_runners, started(&run, runner, now));
         Some(run)
     }
 

@@ -9,8 +9,8 @@ use Rattle.job_lane.specs.Runs.{without_first}
 use Rattle.executor_history.specs.declared.records.Queued.{Queued}
 use Rattle.executor_history.specs.Runs.{is_queued_of}
 use Rattle.run_queues.specs.declared.front.Front.{Front}
-use Rattle.run_queues.specs.Rising.{RisesBy}
-use Rattle.run_queues.proofs.Places.{rises-filter, keep_all}
+use Rattle.rising_rows.specs.Rising.{RisesFrom}
+use Rattle.rising_rows.proofs.RowLemmas.{rises-filter, rises-lower}
 use Rattle.run_queues.specs.Order.{RisesWithin, front_of, fronts_of, put_front, put_found, first_of}
 use Rattle.run_queues.proofs.Merged.{same_number, equal_of}
 
@@ -44,10 +44,18 @@ find-first p (q ∷ qs) = first_step p q qs (p q) refl (find-first p qs)
 
 -- ---- numbers of fronts rise
 abbrev FrontsRise : ℕ → List Front → Type 0
-FrontsRise low fs = RisesBy (λ (f : Front). f.number) low fs
+FrontsRise low fs = RisesFrom (λ (f : Front). f.number) low fs
 
 rise-filter : (p : Front → Bool) (low : ℕ) (fs : List Front) → FrontsRise low fs → FrontsRise low (filter p fs)
 rise-filter p low fs h = rises-filter (λ (f : Front). f.number) p low fs h
+
+above_differs : (n m : ℕ) → n < m → (n == m) ≡ false
+above_differs n m lt = grind (arith, nat_tests)
+
+-- no front has a number that all pass
+keep_all : (n : ℕ) (fs : List Front) → FrontsRise n fs → filter (λ (f : Front). not (n == f.number)) fs ≡ fs
+keep_all n [] h = refl
+keep_all n (f ∷ fs) h = rw (above_differs n f.number h.0) (ap (λ gs. f ∷ gs) (keep_all n fs (rises-lower (λ (g : Front). g.number) f.number n fs h.1 (omega (arith, h.0)))))
 
 pub fronts-rise : (low high : ℕ) (qs : List Queued) → RisesWithin low qs high → FrontsRise low (fronts_of qs)
 fronts-rise low high [] h = tt
@@ -135,7 +143,7 @@ own_step job high q x qs true e h is step =
     let both : filter (λ (f : Front). not (job == f.job)) (filter (λ (f : Front). not (q.job == f.job)) (fronts_of qs)) ≡ filter (λ (f : Front). not (q.job == f.job)) (fronts_of qs) =
     rw as_job (twice (λ (f : Front). not (q.job == f.job)) (fronts_of qs)) in
     let P : Queued → Type 0 = λ y. filter (λ (f : Front). not (y.run.number == f.number)) (fronts_of (q ∷ qs)) ≡ filter (λ (f : Front). not (job == f.job)) (fronts_of (q ∷ qs)) in
-    subst P same (rw (same_number, e, both) (keep_all (λ (f : Front). f.number) q.run.number (filter (λ (f : Front). not (q.job == f.job)) (fronts_of qs)) rest))
+    subst P same (rw (same_number, e, both) (keep_all q.run.number (filter (λ (f : Front). not (q.job == f.job)) (fronts_of qs)) rest))
 own_step job high q x qs false e h is step =
     let k : find (is_queued_of job) qs ≡ Some x = rw e at is in
     let up = found_in (is_queued_of job) q.run.number high qs x h k in
@@ -277,3 +285,36 @@ pub own_taken : (r : ℕ → Bool) (x : Queued) (qs : List Queued) → find (λ 
     → filter (is_queued_of x.job) (without_first (λ (y : Queued). r y.job) qs) ≡ drop 1 (filter (is_queued_of x.job) qs)
 own_taken r x [] is = absurd cc
 own_taken r x (q ∷ qs) is = own_case r q x qs (r q.job) refl is (own_taken r x qs)
+
+-- ---- a front whose number no other has
+fresh_filter : (n : ℕ) (p : Front → Bool) (fs : List Front) → list_any (λ (g : Front). n == g.number) fs ≡ false → list_any (λ (g : Front). n == g.number) (filter p fs) ≡ false
+fresh_filter n p [] h = refl
+fresh_filter n p (f ∷ fs) h = by_tests (n == f.number) (p f) refl refl h (fresh_filter n p fs) where
+  by_tests : (b c : Bool) → (n == f.number) ≡ b → p f ≡ c → list_any (λ (g : Front). n == g.number) (f ∷ fs) ≡ false → (list_any (λ (g : Front). n == g.number) fs ≡ false → list_any (λ (g : Front). n == g.number) (filter p fs) ≡ false) → list_any (λ (g : Front). n == g.number) (filter p (f ∷ fs)) ≡ false
+  by_tests true c e t h rest = let k = rw e at h in absurd cc
+  by_tests false true e t h rest = rw (t, e) (rest (rw e at h))
+  by_tests false false e t h rest = rw t (rest (rw e at h))
+
+fresh_above : (n : ℕ) (fs : List Front) → FrontsRise n fs → list_any (λ (g : Front). n == g.number) fs ≡ false
+fresh_above n [] h = refl
+fresh_above n (f ∷ fs) h = rw (above_differs n f.number h.0) (fresh_above n fs (rises-lower (λ (g : Front). g.number) f.number n fs h.1 (omega (arith, h.0))))
+
+fresh_step : (job high : ℕ) (q x : Queued) (qs : List Queued) (b : Bool) → (job == q.job) ≡ b → RisesWithin q.run.number qs high → find (is_queued_of job) (q ∷ qs) ≡ Some x
+    → (find (is_queued_of job) qs ≡ Some x → list_any (λ (g : Front). x.run.number == g.number) (filter (λ (f : Front). not (job == f.job)) (fronts_of qs)) ≡ false)
+    → list_any (λ (g : Front). x.run.number == g.number) (filter (λ (f : Front). not (job == f.job)) (fronts_of (q ∷ qs))) ≡ false
+fresh_step job high q x qs true e h is step =
+    let k = rw e at is in
+    let same : q ≡ x = cc in
+    let P : Queued → Type 0 = λ y. list_any (λ (g : Front). y.run.number == g.number) (filter (λ (f : Front). not (job == f.job)) (fronts_of (q ∷ qs))) ≡ false in
+    subst P same (rw e (fresh_filter q.run.number (λ (f : Front). not (job == f.job)) (filter (λ (f : Front). not (q.job == f.job)) (fronts_of qs))
+    (fresh_filter q.run.number (λ (f : Front). not (q.job == f.job)) (fronts_of qs) (fresh_above q.run.number (fronts_of qs) (fronts-rise q.run.number high qs h)))))
+fresh_step job high q x qs false e h is step =
+    let k : find (is_queued_of job) qs ≡ Some x = rw e at is in
+    let up = found_in (is_queued_of job) q.run.number high qs x h k in
+    rw (e, below_differs x.run.number q.run.number up, comm (λ (f : Front). not (job == f.job)) (λ (f : Front). not (q.job == f.job)) (fronts_of qs))
+    (fresh_filter x.run.number (λ (f : Front). not (q.job == f.job)) (filter (λ (f : Front). not (job == f.job)) (fronts_of qs)) (step k))
+
+-- no front of another job has the number of the first run of a job
+pub fresh : (job low high : ℕ) (qs : List Queued) (x : Queued) → RisesWithin low qs high → find (is_queued_of job) qs ≡ Some x → list_any (λ (g : Front). x.run.number == g.number) (filter (λ (f : Front). not (job == f.job)) (fronts_of qs)) ≡ false
+fresh job low high [] x h is = absurd cc
+fresh job low high (q ∷ qs) x h is = fresh_step job high q x qs (job == q.job) refl h.1 is (fresh job q.run.number high qs x h.1)

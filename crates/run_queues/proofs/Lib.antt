@@ -1,4 +1,6 @@
-pub mod Places
+pub mod Puts
 pub mod Merged
 pub mod Fronts
 pub mod Holds
+pub mod Served
+pub mod Given

@@ -1,14 +1,14 @@
 -- The runs of all queues, merged by their numbers, are the one list that the queues hold.
-use Rattle.std.proofs.Common.{◌≡◌, ℕ, ◌<◌, ◌≤◌, Bool, true, false, not, ◌==◌, nat_eq, nat_lt, ◌||◌, List, [], ◌∷◌, ◌++◌, filter, refl, sym, ap, subst, ◌∙◌, arith}
+use Rattle.std.proofs.Common.{◌≡◌, ℕ, ◌<◌, ◌≤◌, Bool, true, false, not, ◌==◌, nat_eq, nat_lt, ◌||◌, List, [], ◌∷◌, ◌++◌, map, filter, refl, sym, ap, subst, ◌∙◌, arith}
 use Rattle.std.proofs.lemmas.Bool.Decides.{nat_tests}
-use Rattle.std.specs.declared.alloc.Global.{Global}
-use Rattle.std.specs.declared.collections.VecDeque.{VecDeque}
 use Rattle.std.specs.List.{IsDistinct, AllByRecursion, list_any}
 use Rattle.std.specs.Map.{keys_of}
 use Rattle.job_lane.specs.Runs.{without_first}
+use Rattle.job_lane.specs.declared.runs.QueuedRun.{QueuedRun}
+use Rattle.job_lane.specs.Lanes.{LaneView}
 use Rattle.executor_history.specs.declared.records.Queued.{Queued}
 use Rattle.executor_history.specs.Runs.{is_queued_of}
-use Rattle.run_queues.specs.Order.{queue_of, put_run, put_runs, in_order, RisesWithin}
+use Rattle.run_queues.specs.Order.{queued_in, queue_of, put_run, put_runs, in_order, RisesWithin}
 
 -- ---- rising numbers
 pub weaken : (low x high : ℕ) (qs : List Queued) → low ≤ x → RisesWithin x qs high → RisesWithin low qs high
@@ -91,7 +91,7 @@ none_left job [] = refl
 none_left job (q ∷ qs) = none_step job q qs (job == q.job) refl (none_left job qs)
 
 -- ---- all queues
-absent : (job : ℕ) (es : List (ℕ × VecDeque Queued Global)) → AllByRecursion (λ y. nat_eq job y ≡ false) (keys_of es) → queue_of job es ≡ []
+absent : (job : ℕ) (es : List (ℕ × LaneView)) → AllByRecursion (λ y. nat_eq job y ≡ false) (keys_of es) → queue_of job es ≡ []
 absent job [] h = refl
 absent job (e ∷ es) h = rw h.0 (absent job es h.1)
 
@@ -99,7 +99,7 @@ no_runs : (qs : List Queued) → ((job : ℕ) → filter (is_queued_of job) qs �
 no_runs [] h = refl
 no_runs (q ∷ qs) h = let k = rw same_number at (h q.job) in absurd cc
 
-rest_by : (job : ℕ) (e : ℕ × VecDeque Queued Global) (es : List (ℕ × VecDeque Queued Global)) (qs : List Queued) (b : Bool) → (job == e.0) ≡ b → AllByRecursion (λ y. nat_eq e.0 y ≡ false) (keys_of es)
+rest_by : (job : ℕ) (e : ℕ × LaneView) (es : List (ℕ × LaneView)) (qs : List Queued) (b : Bool) → (job == e.0) ≡ b → AllByRecursion (λ y. nat_eq e.0 y ≡ false) (keys_of es)
     → filter (is_queued_of job) qs ≡ queue_of job (e ∷ es) → filter (is_queued_of job) (filter (λ x. not (is_queued_of e.0 x)) qs) ≡ queue_of job es
 rest_by job e es qs true is apart h =
     let same : job ≡ e.0 = equal_of job e.0 is in
@@ -107,11 +107,11 @@ rest_by job e es qs true is apart h =
     subst P (sym same) (none_left e.0 qs ∙ sym (absent e.0 es apart))
 rest_by job e es qs false is apart h = others job e.0 qs is ∙ rw is at h
 
-pub merged : (es : List (ℕ × VecDeque Queued Global)) (qs : List Queued) (high : ℕ) → IsDistinct nat_eq (keys_of es) → RisesWithin 0 qs high → ((job : ℕ) → filter (is_queued_of job) qs ≡ queue_of job es) → in_order es ≡ qs
+pub merged : (es : List (ℕ × LaneView)) (qs : List Queued) (high : ℕ) → IsDistinct nat_eq (keys_of es) → RisesWithin 0 qs high → ((job : ℕ) → filter (is_queued_of job) qs ≡ queue_of job es) → in_order es ≡ qs
 unfolding IsDistinct
 merged [] qs high once h are = no_runs qs are
 merged (e ∷ es) qs high once h are =
-    let head : filter (is_queued_of e.0) qs ≡ e.1.items = rw same_number at (are e.0) in
+    let head : filter (is_queued_of e.0) qs ≡ map (queued_in e.0) e.1.queue = rw same_number at (are e.0) in
     let rest : in_order es ≡ filter (λ x. not (is_queued_of e.0 x)) qs =
     merged es (filter (λ x. not (is_queued_of e.0 x)) qs) high once.1 (rises-filter _ 0 high qs h) (λ job. rest_by job e es qs (job == e.0) refl once.0 (are job)) in
     rw (rest, ← head) (parts (is_queued_of e.0) 0 high qs h)
@@ -137,7 +137,13 @@ runs_any p (x ∷ xs) qs = put_any p x (put_runs xs qs) ∙ (ap (λ (b : Bool). 
   or_assoc true b c = refl
   or_assoc false b c = refl
 
+any_map : {X Y : Type 0} (p : Y → Bool) (f : X → Y) (xs : List X) → list_any p (map f xs) ≡ list_any (λ x. p (f x)) xs
+any_map p f [] = refl
+any_map p f (x ∷ xs) = ap (λ (b : Bool). p (f x) || b) (any_map p f xs)
+
 -- some run of all queues passes where some queue has one
-pub any-order : (p : Queued → Bool) (es : List (ℕ × VecDeque Queued Global)) → list_any p (in_order es) ≡ list_any (λ (e : ℕ × VecDeque Queued Global). list_any p e.1.items) es
+pub any-order : (p : Queued → Bool) (es : List (ℕ × LaneView)) → list_any p (in_order es) ≡ list_any (λ (e : ℕ × LaneView). list_any (λ (run : QueuedRun). p (queued_in e.0 run)) e.1.queue) es
 any-order p [] = refl
-any-order p (e ∷ es) = runs_any p e.1.items (in_order es) ∙ ap (λ (b : Bool). list_any p e.1.items || b) (any-order p es)
+any-order p (e ∷ es) =
+    runs_any p (map (queued_in e.0) e.1.queue) (in_order es)
+    ∙ (ap (λ (b : Bool). b || list_any p (in_order es)) (any_map p (queued_in e.0) e.1.queue) ∙ ap (λ (b : Bool). list_any (λ (run : QueuedRun). p (queued_in e.0 run)) e.1.queue || b) (any-order p es))

@@ -1,8 +1,8 @@
 //! The first run of a queue, as the index of the queues keeps it.
 ghost use Rattle.std.specs.Prelude.{◌≡◌};
 
-use super::keyed::Keyed;
 use job_values::JobId;
+use rising_rows::Keyed;
 
 /// The first run of a job that waits.
 #[derive(Clone, Copy, Debug)]

@@ -1,13 +1,13 @@
-//! The runs that wait at an executor: a queue for each job, and the first run of each queue in order of acceptance.
+//! The runs of an executor: a lane for each job, the first run of each queue in order of acceptance, and the job that each
+//! runner serves.
 #![tactic(auto)]
 
 pub mod front;
-pub mod keyed;
 pub mod lanes;
 pub mod queues;
 pub mod ready;
+pub mod serving;
 
 pub use front::Front;
-pub use keyed::{Keyed, place_after, place_from, put_key, take_key};
 pub use queues::Queues;
-pub use ready::some_runs;
+pub use serving::Serving;

@@ -1,10 +1,10 @@
-//! Lines of the worked rows: their events, and the texts of their replies.
+//! Lines of the worked rows: their events, and what is said of their replies.
 use job_events::{ExecutorEvent, ExecutorRefusal, ExecutorReply, FinishCode};
 use job_values::{
     BoundedText, CallbackItem, JobId, LineNo, LogId, LogMoment, Moment, Run, RunnerNo, Seq,
     ShardNo, Text, Timeout,
 };
-use std::alloc::{AllocError, Global};
+use std::alloc::Global;
 use std::process::Abort;
 use std::test::Fail;
 
@@ -116,57 +116,73 @@ pub fn event(rt: &impl Abort, alloc: Global, line: &Line) -> Result<ExecutorEven
     })
 }
 
-fn numbered(alloc: Global, word: &str, number: u64) -> Result<String, AllocError> {
-    format!(in alloc; "{word} {number}")
+/// What a row says of a reply. Runs and items are named by their logs, items with their codes.
+#[derive(Clone, Copy)]
+pub enum Said {
+    Done,
+    Queued(u64),
+    Killed(u64),
+    Runs(u64),
+    Item(u64, i32),
+    NoItem(u64),
+    Expired(u64),
+    /// The number of the last line.
+    Lines(u64),
+    Batch(&'static [(u64, i32)]),
+    Reloaded(u64),
+    Kept(&'static [(u64, i32)]),
+    Held(u64),
+    NotBean,
+    NoHandler,
+    Discarded,
+    Running,
+    RunnerBusy(u64),
+    Nothing,
+    NotRunning,
+    NoLines,
+    BatchOut,
+    NoBatch,
 }
 
-fn refusal(alloc: Global, why: &ExecutorRefusal) -> Result<String, AllocError> {
-    match why {
-        ExecutorRefusal::Held(log) => numbered(alloc, "no Held", log.get()),
-        ExecutorRefusal::NotBean => String::from_str(alloc, "no NotBean"),
-        ExecutorRefusal::NoHandler => String::from_str(alloc, "no NoHandler"),
-        ExecutorRefusal::Discarded => String::from_str(alloc, "no Discarded"),
-        ExecutorRefusal::HeldFull => String::from_str(alloc, "no HeldFull"),
-        ExecutorRefusal::Running => String::from_str(alloc, "no Running"),
-        ExecutorRefusal::RunnerBusy(log) => numbered(alloc, "no RunnerBusy", log.get()),
-        ExecutorRefusal::Nothing => String::from_str(alloc, "no Nothing"),
-        ExecutorRefusal::NotRunning => String::from_str(alloc, "no NotRunning"),
-        ExecutorRefusal::LinesFull => String::from_str(alloc, "no LinesFull"),
-        ExecutorRefusal::NoLines => String::from_str(alloc, "no NoLines"),
-        ExecutorRefusal::BatchOut => String::from_str(alloc, "no BatchOut"),
-        ExecutorRefusal::NoBatch => String::from_str(alloc, "no NoBatch"),
+fn are_said(items: &Seq<CallbackItem>, said: &[(u64, i32)]) -> bool {
+    let items = items.as_slice();
+    items.len() == said.len()
+        && items.iter().zip(said).all(|(item, said)| item.log.get() == said.0
+            && item.code == said.1)
+}
+
+fn is_refused(why: &ExecutorRefusal, said: &Said) -> bool {
+    match (why, said) {
+        (ExecutorRefusal::Held(log), Said::Held(of)) => log.get() == *of,
+        (ExecutorRefusal::RunnerBusy(log), Said::RunnerBusy(of)) => log.get() == *of,
+        (ExecutorRefusal::NotBean, Said::NotBean) => true,
+        (ExecutorRefusal::NoHandler, Said::NoHandler) => true,
+        (ExecutorRefusal::Discarded, Said::Discarded) => true,
+        (ExecutorRefusal::Running, Said::Running) => true,
+        (ExecutorRefusal::Nothing, Said::Nothing) => true,
+        (ExecutorRefusal::NotRunning, Said::NotRunning) => true,
+        (ExecutorRefusal::NoLines, Said::NoLines) => true,
+        (ExecutorRefusal::BatchOut, Said::BatchOut) => true,
+        (ExecutorRefusal::NoBatch, Said::NoBatch) => true,
+        _ => false,
     }
 }
 
-/// The log and the code of each item.
-fn listed(alloc: Global, word: &str, items: &Seq<CallbackItem>) -> Result<String, AllocError> {
-    let mut text = String::from_str(alloc, word)?;
-    for item in items.as_slice() {
-        let log = item.log.get();
-        let code = item.code;
-        write!(text, " {log}:{code}")?;
-    }
-    Ok(text)
-}
-
-/// The text of a reply; of lines, the number of the last.
-pub fn told(alloc: Global, reply: &ExecutorReply) -> Result<String, AllocError> {
-    match reply {
-        ExecutorReply::Done => String::from_str(alloc, "ok"),
-        ExecutorReply::Queued(count) => numbered(alloc, "queued", *count),
-        ExecutorReply::Killed(count) => numbered(alloc, "killed", *count),
-        ExecutorReply::Runs(polled) => numbered(alloc, "run", polled.log.get()),
-        ExecutorReply::Item(log, code) => {
-            let log = log.get();
-            format!(in alloc; "item {log} {code}")
-        }
-        ExecutorReply::NoItem(log) => numbered(alloc, "none", log.get()),
-        ExecutorReply::Expired(count) => numbered(alloc, "expired", *count),
-        ExecutorReply::Lines(lines) => numbered(alloc, "lines", lines.to),
-        ExecutorReply::Trimmed(count) => numbered(alloc, "trimmed", *count),
-        ExecutorReply::Batch(items) => listed(alloc, "batch", items),
-        ExecutorReply::Reloaded(count) => numbered(alloc, "reloaded", *count),
-        ExecutorReply::Kept(items) => listed(alloc, "kept", items),
-        ExecutorReply::Refused(why) => refusal(alloc, why),
+/// Whether a reply is the one that a row says.
+pub fn is_said(reply: &ExecutorReply, said: &Said) -> bool {
+    match (reply, said) {
+        (ExecutorReply::Refused(why), _) => is_refused(why, said),
+        (ExecutorReply::Done, Said::Done) => true,
+        (ExecutorReply::Queued(count), Said::Queued(of)) => count == of,
+        (ExecutorReply::Killed(count), Said::Killed(of)) => count == of,
+        (ExecutorReply::Runs(polled), Said::Runs(of)) => polled.log.get() == *of,
+        (ExecutorReply::Item(log, code), Said::Item(of, is)) => log.get() == *of && code == is,
+        (ExecutorReply::NoItem(log), Said::NoItem(of)) => log.get() == *of,
+        (ExecutorReply::Expired(count), Said::Expired(of)) => count == of,
+        (ExecutorReply::Lines(lines), Said::Lines(of)) => lines.to == *of,
+        (ExecutorReply::Batch(items), Said::Batch(of)) => are_said(items, of),
+        (ExecutorReply::Reloaded(count), Said::Reloaded(of)) => count == of,
+        (ExecutorReply::Kept(items), Said::Kept(of)) => are_said(items, of),
+        _ => false,
     }
 }

@@ -1,5 +1,5 @@
-//! The worked rows: events, and the texts of their replies.
-use super::executor_lines::{Line, event, text, told};
+//! The worked rows: events, and what each is answered.
+use super::executor_lines::{Line, Said, event, is_said, text};
 use executor_core::Executor;
 use job_values::{CallbackItem, HandlerName, Seq};
 use std::alloc::Global;
@@ -7,7 +7,7 @@ use std::process::Abort;
 use std::test::Fail;
 
 /// An executor with the one handler `demo`, after these lines, each of which gave this reply.
-fn played(rt: &impl Abort, alloc: Global, lines: &[(Line, &str)]) -> Result<Executor, Fail> {
+fn played(rt: &impl Abort, alloc: Global, lines: &[(Line, Said)]) -> Result<Executor, Fail> {
     let mut handlers: Seq<HandlerName> = Seq::new(alloc);
     handlers.push(text(rt, alloc, "demo")?)?;
     let kept: Seq<CallbackItem> = Seq::new(alloc);
@@ -21,12 +21,11 @@ fn go_on(
     rt: &impl Abort,
     alloc: Global,
     executor: &mut Executor,
-    lines: &[(Line, &str)],
+    lines: &[(Line, Said)],
 ) -> Result<(), Fail> {
     for (line, reply) in lines {
         let event = event(rt, alloc, line)?;
-        let got = told(alloc, &executor.step(&event)?)?;
-        assert_eq!(rt; got.as_str(), *reply);
+        assert!(rt; is_said(&executor.step(&event)?, reply));
     }
     Ok(())
 }
@@ -39,13 +38,13 @@ fn cover_with_a_copy(rt: HostRuntime) -> Result<(), Fail> {
         &rt,
         alloc,
         &[
-            (Line::Run(1, "COVER_EARLY", 100_002), "queued 0"),
-            (Line::Run(1, "COVER_EARLY", 100_002), "no Held 1"),
-            (Line::Poll(0, 100_004), "run 1"),
-            (Line::Run(1, "COVER_EARLY", 100_002), "no Held 1"),
-            (Line::Finish(0, 100_006), "item 1 200"),
-            (Line::Take, "batch 1:200"),
-            (Line::Ack, "ok"),
+            (Line::Run(1, "COVER_EARLY", 100_002), Said::Queued(0)),
+            (Line::Run(1, "COVER_EARLY", 100_002), Said::Held(1)),
+            (Line::Poll(0, 100_004), Said::Runs(1)),
+            (Line::Run(1, "COVER_EARLY", 100_002), Said::Held(1)),
+            (Line::Finish(0, 100_006), Said::Item(1, 200)),
+            (Line::Take, Said::Batch(&[(1, 200)])),
+            (Line::Ack, Said::Done),
         ],
     )?;
     assert_eq!(rt; executor.held(), 0);
@@ -54,11 +53,11 @@ fn cover_with_a_copy(rt: HostRuntime) -> Result<(), Fail> {
         alloc,
         &mut executor,
         &[
-            (Line::Run(1, "COVER_EARLY", 100_002), "queued 0"),
-            (Line::Poll(0, 100_009), "run 1"),
-            (Line::Finish(0, 100_010), "item 1 200"),
-            (Line::Take, "batch 1:200"),
-            (Line::Take, "no BatchOut"),
+            (Line::Run(1, "COVER_EARLY", 100_002), Said::Queued(0)),
+            (Line::Poll(0, 100_009), Said::Runs(1)),
+            (Line::Finish(0, 100_010), Said::Item(1, 200)),
+            (Line::Take, Said::Batch(&[(1, 200)])),
+            (Line::Take, Said::BatchOut),
         ],
     )?;
     assert_eq!(rt; executor.held(), 1);
@@ -72,16 +71,16 @@ fn discard_with_a_timeout(rt: HostRuntime) -> Result<(), Fail> {
         &rt,
         rt.alloc(),
         &[
-            (Line::Limited(1, "DISCARD_LATER", 100_000), "queued 0"),
-            (Line::Poll(3, 100_000), "run 1"),
-            (Line::Limited(2, "DISCARD_LATER", 100_100), "no Discarded"),
-            (Line::Idle, "no Running"),
-            (Line::Expire(104_999), "expired 0"),
-            (Line::Expire(105_000), "expired 1"),
-            (Line::Limited(2, "DISCARD_LATER", 100_100), "queued 0"),
-            (Line::Poll(3, 105_002), "no RunnerBusy 1"),
-            (Line::Poll(4, 105_002), "run 2"),
-            (Line::Finish(3, 106_000), "none 1"),
+            (Line::Limited(1, "DISCARD_LATER", 100_000), Said::Queued(0)),
+            (Line::Poll(3, 100_000), Said::Runs(1)),
+            (Line::Limited(2, "DISCARD_LATER", 100_100), Said::Discarded),
+            (Line::Idle, Said::Running),
+            (Line::Expire(104_999), Said::Expired(0)),
+            (Line::Expire(105_000), Said::Expired(1)),
+            (Line::Limited(2, "DISCARD_LATER", 100_100), Said::Queued(0)),
+            (Line::Poll(3, 105_002), Said::RunnerBusy(1)),
+            (Line::Poll(4, 105_002), Said::Runs(2)),
+            (Line::Finish(3, 106_000), Said::NoItem(1)),
         ],
     )?;
     Ok(())
@@ -94,15 +93,15 @@ fn serial_runs_are_killed(rt: HostRuntime) -> Result<(), Fail> {
         &rt,
         rt.alloc(),
         &[
-            (Line::Beat, "ok"),
-            (Line::Finish(0, 100_000), "no NotRunning"),
-            (Line::Run(1, "SERIAL_EXECUTION", 100_000), "queued 0"),
-            (Line::Run(2, "SERIAL_EXECUTION", 100_000), "queued 0"),
-            (Line::Poll(0, 100_000), "run 1"),
-            (Line::Poll(1, 100_000), "no Nothing"),
-            (Line::Kill, "killed 1"),
-            (Line::Finish(0, 100_000), "item 1 500"),
-            (Line::Take, "batch 2:500 1:500"),
+            (Line::Beat, Said::Done),
+            (Line::Finish(0, 100_000), Said::NotRunning),
+            (Line::Run(1, "SERIAL_EXECUTION", 100_000), Said::Queued(0)),
+            (Line::Run(2, "SERIAL_EXECUTION", 100_000), Said::Queued(0)),
+            (Line::Poll(0, 100_000), Said::Runs(1)),
+            (Line::Poll(1, 100_000), Said::Nothing),
+            (Line::Kill, Said::Killed(1)),
+            (Line::Finish(0, 100_000), Said::Item(1, 500)),
+            (Line::Take, Said::Batch(&[(2, 500), (1, 500)])),
         ],
     )?;
     Ok(())
@@ -115,23 +114,23 @@ fn cover_ends_earlier_runs(rt: HostRuntime) -> Result<(), Fail> {
         &rt,
         rt.alloc(),
         &[
-            (Line::Run(1, "COVER_EARLY", 100_000), "queued 0"),
-            (Line::Run(2, "COVER_EARLY", 100_000), "queued 1"),
+            (Line::Run(1, "COVER_EARLY", 100_000), Said::Queued(0)),
+            (Line::Run(2, "COVER_EARLY", 100_000), Said::Queued(1)),
         ],
     )?;
     let _running = played(
         &rt,
         rt.alloc(),
         &[
-            (Line::Run(1, "SERIAL_EXECUTION", 100_000), "queued 0"),
-            (Line::Run(2, "SERIAL_EXECUTION", 100_000), "queued 0"),
-            (Line::Poll(0, 100_000), "run 1"),
-            (Line::Run(3, "COVER_EARLY", 100_000), "queued 1"),
-            (Line::Kill, "killed 1"),
-            (Line::Finish(0, 100_001), "item 1 500"),
-            (Line::Kept, "kept 2:500 3:500 1:500"),
-            (Line::Read(9), "no NoLines"),
-            (Line::Read(1), "lines 0"),
+            (Line::Run(1, "SERIAL_EXECUTION", 100_000), Said::Queued(0)),
+            (Line::Run(2, "SERIAL_EXECUTION", 100_000), Said::Queued(0)),
+            (Line::Poll(0, 100_000), Said::Runs(1)),
+            (Line::Run(3, "COVER_EARLY", 100_000), Said::Queued(1)),
+            (Line::Kill, Said::Killed(1)),
+            (Line::Finish(0, 100_001), Said::Item(1, 500)),
+            (Line::Kept, Said::Kept(&[(2, 500), (3, 500), (1, 500)])),
+            (Line::Read(9), Said::NoLines),
+            (Line::Read(1), Said::Lines(0)),
         ],
     )?;
     Ok(())
@@ -144,8 +143,8 @@ fn runs_that_nothing_can_run(rt: HostRuntime) -> Result<(), Fail> {
         &rt,
         rt.alloc(),
         &[
-            (Line::Glued(1, "GLUE_GROOVY"), "no NotBean"),
-            (Line::Handled(1, "none"), "no NoHandler"),
+            (Line::Glued(1, "GLUE_GROOVY"), Said::NotBean),
+            (Line::Handled(1, "none"), Said::NoHandler),
         ],
     )?;
     Ok(())
@@ -158,24 +157,30 @@ fn failed_batches_keep_their_order(rt: HostRuntime) -> Result<(), Fail> {
         &rt,
         rt.alloc(),
         &[
-            (Line::Fail(false), "no NoBatch"),
-            (Line::Run(1, "SERIAL_EXECUTION", 100_000), "queued 0"),
-            (Line::Run(2, "SERIAL_EXECUTION", 100_000), "queued 0"),
-            (Line::Kill, "killed 2"),
-            (Line::Take, "batch 1:500 2:500"),
-            (Line::Run(3, "SERIAL_EXECUTION", 100_000), "queued 0"),
-            (Line::Kill, "killed 1"),
-            (Line::Fail(false), "ok"),
-            (Line::Take, "batch 1:500 2:500 3:500"),
-            (Line::Fail(true), "ok"),
-            (Line::Take, "no Nothing"),
-            (Line::Run(4, "SERIAL_EXECUTION", 100_000), "queued 0"),
-            (Line::Kill, "killed 1"),
-            (Line::Take, "batch 4:500"),
-            (Line::Fail(true), "ok"),
-            (Line::Kept, "kept 1:500 2:500 3:500 4:500"),
-            (Line::Reload, "reloaded 4"),
-            (Line::Take, "batch 1:500 2:500 3:500 4:500"),
+            (Line::Fail(false), Said::NoBatch),
+            (Line::Run(1, "SERIAL_EXECUTION", 100_000), Said::Queued(0)),
+            (Line::Run(2, "SERIAL_EXECUTION", 100_000), Said::Queued(0)),
+            (Line::Kill, Said::Killed(2)),
+            (Line::Take, Said::Batch(&[(1, 500), (2, 500)])),
+            (Line::Run(3, "SERIAL_EXECUTION", 100_000), Said::Queued(0)),
+            (Line::Kill, Said::Killed(1)),
+            (Line::Fail(false), Said::Done),
+            (Line::Take, Said::Batch(&[(1, 500), (2, 500), (3, 500)])),
+            (Line::Fail(true), Said::Done),
+            (Line::Take, Said::Nothing),
+            (Line::Run(4, "SERIAL_EXECUTION", 100_000), Said::Queued(0)),
+            (Line::Kill, Said::Killed(1)),
+            (Line::Take, Said::Batch(&[(4, 500)])),
+            (Line::Fail(true), Said::Done),
+            (
+                Line::Kept,
+                Said::Kept(&[(1, 500), (2, 500), (3, 500), (4, 500)]),
+            ),
+            (Line::Reload, Said::Reloaded(4)),
+            (
+                Line::Take,
+                Said::Batch(&[(1, 500), (2, 500), (3, 500), (4, 500)]),
+            ),
         ],
     )?;
     Ok(())

@@ -9,6 +9,8 @@ mod executor_lines;
 #[cfg(test)]
 mod executors;
 #[cfg(test)]
+mod file_spools;
+#[cfg(test)]
 mod lines;
 #[cfg(test)]
 mod outsides;

@@ -1,45 +1,12 @@
 //! The streams, links and dialers, each on a short text.
 use outside::{
     BytesDialer, BytesLink, BytesSink, BytesSource, Dialer, Failed, Link, MemoryDialer, MemoryLink,
-    MemorySink, MemorySource, Sink, Source, StreamSink, StreamSource, TcpDialer, TcpLink, send,
-    write_whole,
+    MemorySink, MemorySource, Sink, Source, send, write_whole,
 };
+use outside_real::{StreamSink, StreamSource, TcpDialer, TcpLink};
 use std::collections::VecDeque;
 use std::net::TcpListener;
 use std::test::Fail;
-
-#[test]
-fn memory_source_gives_pieces_and_fails_where_told(rt: HostRuntime) -> Result<(), Fail> {
-    let failing = vec![in rt.alloc(); 2u64]?;
-    let mut source = MemorySource::new(rt.alloc(), b"abcde")
-        .in_pieces(3)
-        .failing(failing);
-    let mut into = [0u8; 8];
-    assert_eq!(rt; source.read(&mut into), Ok(3));
-    assert_eq!(rt; into, *b"abc\0\0\0\0\0");
-    assert_eq!(rt; source.read(&mut into), Err(Failed));
-    assert_eq!(rt; source.faults(), 1);
-    assert_eq!(rt; source.read(&mut into), Ok(2));
-    assert_eq!(rt; into, *b"dec\0\0\0\0\0");
-    assert_eq!(rt; source.read(&mut into), Ok(0));
-    Ok(())
-}
-
-#[test]
-fn memory_sink_takes_pieces_and_fails_where_told(rt: HostRuntime) -> Result<(), Fail> {
-    let failing = vec![in rt.alloc(); 3u64]?;
-    let mut sink = MemorySink::new(rt.alloc()).in_pieces(2).failing(failing);
-    assert_eq!(rt; write_whole(&mut sink, b"abcd"), Ok(()));
-    assert_eq!(rt; write_whole(&mut sink, b"ef"), Err(Failed));
-    assert_eq!(rt; write_whole(&mut sink, b"gh"), Ok(()));
-    assert_eq!(rt; sink.taken(), b"abcdgh".as_slice());
-    assert_eq!(rt; sink.faults(), 1);
-    let mut full = MemorySink::new(rt.alloc()).in_pieces(0);
-    assert_eq!(rt; full.write(b"a"), Ok(0));
-    assert_eq!(rt; full.faults(), 1);
-    assert_eq!(rt; write_whole(&mut full, b"a"), Err(Failed));
-    Ok(())
-}
 
 #[test]
 fn plain_streams_give_and_take_all(rt: HostRuntime) -> Result<(), Fail> {
@@ -56,24 +23,6 @@ fn plain_streams_give_and_take_all(rt: HostRuntime) -> Result<(), Fail> {
     assert_eq!(rt; sink.taken(), b"abc".as_slice());
     let mut writer = StreamSink::new(Vec::new(rt.alloc()));
     assert_eq!(rt; writer.write(b"abc"), Ok(3));
-    Ok(())
-}
-
-#[test]
-fn memory_link_carries_pieces_and_fails_where_told(rt: HostRuntime) -> Result<(), Fail> {
-    let bytes = Vec::from_slice(rt.alloc(), b"abc")?;
-    let failing = vec![in rt.alloc(); 2u64]?;
-    let mut link = MemoryLink::new(rt.alloc(), bytes)
-        .in_pieces(2)
-        .failing(failing);
-    let mut into = [0u8; 4];
-    assert_eq!(rt; link.read(&mut into), Ok(2));
-    assert_eq!(rt; link.read(&mut into), Err(Failed));
-    assert_eq!(rt; send(&mut link, b"xyz"), Ok(()));
-    assert_eq!(rt; link.taken(), b"xyz".as_slice());
-    assert_eq!(rt; link.faults(), 1);
-    let mut full = link.with_room(0);
-    assert_eq!(rt; send(&mut full, b"x"), Err(Failed));
     Ok(())
 }
 
@@ -121,7 +70,7 @@ fn dial_shows_what_its_link_told(rt: HostRuntime) -> Result<(), Fail> {
 fn tcp_link_carries_bytes(rt: HostRuntime) -> Result<(), Fail> {
     let listener = TcpListener::bind(&rt, "127.0.0.1:0")?;
     let port = listener.local_addr()?.port();
-    let mut dialer = TcpDialer::new(&rt).another()?;
+    let mut dialer = TcpDialer::new(rt).another()?;
     let mut link = dialer.dial("127.0.0.1", port)?;
     let (stream, _) = listener.accept()?;
     let mut peer = TcpLink::of(stream)?;

@@ -21,45 +21,6 @@ fn text<const LEAST: usize, const MOST: usize>(
     BoundedText::new(text).expect(rt, "a text within its bounds")
 }
 
-fn group(rt: &impl Abort, alloc: Global, id: u32, app: &str) -> Group {
-    Group {
-        id: GroupId::new(id).expect(rt, "a group id"),
-        app: text(rt, alloc, app),
-        kind: GroupKind::Manual,
-        addresses: Addresses::new(Seq::new(alloc)).expect(rt, "an address list"),
-    }
-}
-
-fn spec(rt: &impl Abort, alloc: Global, group: u32, seconds: &str) -> JobSpec {
-    JobSpec {
-        group: GroupId::new(group).expect(rt, "a group id"),
-        kind: ScheduleKind::FixRate,
-        schedule: text(rt, alloc, seconds),
-        misfire: Misfire::DoNothing,
-        route: Route::First,
-        block: Block::SerialExecution,
-        handler: text(rt, alloc, "work"),
-        param: text(rt, alloc, ""),
-        timeout: Timeout::new(0).expect(rt, "a timeout"),
-        retries: Retries::new(0).expect(rt, "a number of retries"),
-        children: Children::new(Seq::new(alloc)).expect(rt, "a list of children"),
-        zone: text(rt, alloc, ""),
-    }
-}
-
-/// A job that runs every ten seconds; its spec says every so many.
-fn job(rt: &impl Abort, alloc: Global, id: u32, group: u32, seconds: &str) -> Job {
-    let ten = Text::copied(alloc, "10").expect(rt, "memory");
-    Job {
-        id: JobId::new(id).expect(rt, "a job id"),
-        spec: spec(rt, alloc, group, seconds),
-        schedule: Schedule::parse(alloc, ScheduleKind::FixRate, &ten).expect(rt, "a schedule"),
-        running: true,
-        edition: 1,
-        next: Moment::new(10_000),
-    }
-}
-
 fn log(rt: &impl Abort, alloc: Global, id: u64, code: i32) -> Log {
     Log {
         id: LogId::new(id).expect(rt, "a log id"),
@@ -110,91 +71,8 @@ fn put(rt: &impl Abort, alloc: Global, records: &mut Records, change: Change) {
     records.apply(changes);
 }
 
-/// The records with the last ids 3, 3 and 9, the groups 1 and 2, and the jobs 1 to 3 of group 1.
-fn filled(rt: &impl Abort, alloc: Global) -> Records {
-    let mut records = Records::new(alloc);
-    put(rt, alloc, &mut records, last_ids(3, 3, 9));
-    for id in [2, 1] {
-        let group = group(rt, alloc, id, "app");
-        put(rt, alloc, &mut records, Change::PutGroup(group));
-    }
-    for id in [3, 1, 2] {
-        let job = job(rt, alloc, id, 1, "10");
-        put(rt, alloc, &mut records, Change::PutJob(job));
-    }
-    records
-}
-
 fn has_ids<R: Keyed>(rows: &[R], ids: &[u64]) -> bool {
     rows.len() == ids.len() && rows.iter().zip(ids).all(|(row, id)| row.key() == *id)
-}
-
-#[test]
-fn a_group_needs_its_id(rt: HostRuntime) {
-    let alloc = rt.alloc();
-    let mut records = Records::new(alloc);
-    assert_eq!(rt; records.last_ids().group, 0);
-    assert!(rt; records.groups().is_empty());
-    let first = Change::PutGroup(group(&rt, alloc, 1, "app"));
-    assert!(rt; !allows(&rt, alloc, &records, first));
-    put(&rt, alloc, &mut records, last_ids(1, 0, 0));
-    let first = Change::PutGroup(group(&rt, alloc, 1, "app"));
-    assert!(rt; allows(&rt, alloc, &records, first));
-}
-
-#[test]
-fn groups_are_put_in_order_and_replaced(rt: HostRuntime) {
-    let alloc = rt.alloc();
-    let mut records = filled(&rt, alloc);
-    assert!(rt; has_ids(records.groups(), &[1, 2]));
-    let again = group(&rt, alloc, 1, "again")
-        .copy(alloc)
-        .expect(&rt, "memory");
-    put(&rt, alloc, &mut records, Change::PutGroup(again));
-    assert!(rt; has_ids(records.groups(), &[1, 2]));
-    let first = GroupId::new(1).expect(&rt, "a group id");
-    let found = records.group(first).expect(&rt, "group 1");
-    assert_eq!(rt; found.app.as_str(), "again");
-}
-
-#[test]
-fn jobs_are_found_and_dropped(rt: HostRuntime) {
-    let alloc = rt.alloc();
-    let mut records = filled(&rt, alloc);
-    assert!(rt; has_ids(records.jobs(), &[1, 2, 3]));
-    let second = JobId::new(2).expect(&rt, "a job id");
-    let found = records
-        .job(second)
-        .expect(&rt, "job 2")
-        .copy(alloc)
-        .expect(&rt, "memory");
-    assert_eq!(rt; found.id.get(), 2);
-    put(&rt, alloc, &mut records, Change::DropJob(second));
-    assert!(rt; records.job(second).is_none());
-    assert!(rt; has_ids(records.jobs(), &[1, 3]));
-}
-
-/// The job's id, its group, what its spec says, and whether it is allowed.
-#[test]
-fn a_job_is_as_it_must_be(rt: HostRuntime) {
-    let alloc = rt.alloc();
-    let records = filled(&rt, alloc);
-    for (id, group, seconds, allowed) in [
-        (2, 2, "10", true),
-        (2, 3, "10", false),
-        (4, 2, "10", false),
-        (2, 2, "11", false),
-        (2, 2, "x", false),
-    ] {
-        let job = job(&rt, alloc, id, group, seconds);
-        assert_eq!(rt; allows(&rt, alloc, &records, Change::PutJob(job)), allowed);
-    }
-    let mut stopped = job(&rt, alloc, 2, 2, "10");
-    stopped.running = false;
-    assert!(rt;
-        !allows(&rt, alloc, &records, Change::PutJob(stopped)),
-        "it has a next time"
-    );
 }
 
 /// Applies drops of these logs.

@@ -1,5 +1,5 @@
-//! What lies outside the scheduler, one trait each, with the forms in memory that tests use and the
-//! adapters to the real thing. Every object counts its faults, and a call fails only where that count rose.
+//! What lies outside the scheduler, one trait each, with the forms in memory that tests use. Every object
+//! counts its faults, and a call fails only where that count rose.
 #![tactic(auto)]
 
 mod clock;
@@ -11,8 +11,6 @@ mod link;
 mod sink;
 mod source;
 mod spool;
-mod streams;
-mod tcp;
 
 pub use clock::{Clock, MemoryClock};
 pub use dialed::{Dialed, Shown};
@@ -22,5 +20,3 @@ pub use link::{BytesLink, Link, MemoryLink, send};
 pub use sink::{BytesSink, MemorySink, Sink, write_whole};
 pub use source::{BytesSource, MemorySource, Source};
 pub use spool::{MemorySpool, Spool, SpoolError};
-pub use streams::{StreamSink, StreamSource};
-pub use tcp::{TcpDialer, TcpLink};

@@ -2,7 +2,7 @@
 //! standard output; or writes the next times of a schedule.
 #![tactic(auto)]
 
-use outside::{StreamSink, StreamSource};
+use outside_real::{StreamSink, StreamSource};
 use replay_program::replay_main;
 use std::process::ExitCode;
 use std::{env, io};

@@ -1,9 +1,7 @@
 //! Sources and sinks over any reader and writer, as the standard streams.
 ghost use Rattle.std.specs.Prelude.{◌≡◌, ℕ, ◌≤◌, ◌<◌, length, IfOk};
 
-use super::failed::{Failed, one_more};
-use super::sink::Sink;
-use super::source::Source;
+use outside::{Failed, Sink, Source};
 use std::io::{Read, Write};
 use std::marker::Model;
 
@@ -43,7 +41,7 @@ impl<R: Read> Source for StreamSource<R> {
         match self.reader.read(into) {
             Ok(count) => Ok(count),
             Err(_) => {
-                self.faults = one_more(self.faults);
+                self.faults = self.faults.saturating_add(1);
                 Err(Failed)
             }
         }
@@ -86,12 +84,12 @@ impl<W: Write> Sink for StreamSink<W> {
         match self.writer.write(bytes) {
             Ok(count) => {
                 if count == 0 && !bytes.is_empty() {
-                    self.faults = one_more(self.faults);
+                    self.faults = self.faults.saturating_add(1);
                 }
                 Ok(count)
             }
             Err(_) => {
-                self.faults = one_more(self.faults);
+                self.faults = self.faults.saturating_add(1);
                 Err(Failed)
             }
         }

@@ -1,7 +1,7 @@
 //! The streams, links and dialers, each on a short text.
 use outside::{
-    BytesDialer, BytesLink, BytesSink, BytesSource, Dialer, Failed, Link, MemoryDialer, MemoryLink,
-    MemorySink, MemorySource, Sink, Source, send, write_whole,
+    BytesDialer, BytesLink, BytesSink, BytesSource, Dialer, Link, MemoryDialer, MemoryLink, Sink,
+    Source, send,
 };
 use outside_real::{StreamSink, StreamSource, TcpDialer, TcpLink};
 use std::collections::VecDeque;

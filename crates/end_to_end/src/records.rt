@@ -1,12 +1,11 @@
 //! The rows and their changes.
 ghost use Rattle.std.specs.Prelude.{◌≡◌, map};
 
-use cron_schedule::Schedule;
-use job_records::{Change, Group, Job, LastIds, Log, Records, RegistryRow};
+use job_records::{Change, LastIds, Log, Records, RegistryRow};
 use job_values::limits::SUCCESS;
 use job_values::{
-    Addresses, Block, BoundedText, Children, GroupId, GroupKind, JobId, JobSpec, LogId, Misfire,
-    Moment, Retries, Route, ScheduleKind, Seq, ShardNo, Text, Timeout, TriggerKind,
+    Block, BoundedText, GroupId, JobId, LogId, Moment, Retries, Route, Seq, ShardNo, Text, Timeout,
+    TriggerKind,
 };
 use rising_rows::Keyed;
 use std::alloc::Global;

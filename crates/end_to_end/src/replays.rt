@@ -1,64 +1,80 @@
-//! Replays over memory: a line past its limit, no word at all, and each read and write failing in turn.
+//! Replays over memory: a line past its limit, and each read and write failing in turn.
 use outside::{BytesSink, BytesSource, MemorySink, MemorySource};
 use replay_program::replay_main;
+use std::alloc::Global;
 use std::test::Fail;
 
-/// The words of a command.
-fn words(rt: &impl Alloc<A = std::alloc::Global>, of: &[&str]) -> Result<Vec<String>, Fail> {
-    let mut words = Vec::new(rt.alloc());
-    for word in of {
-        words.push(String::from_str(rt.alloc(), word)?)?;
-    }
+const SCRIPT: &[u8] = b"start 0\nstart 0\n";
+
+const WHOLE: &[u8] =
+    b"ok\nno NodeRunning 0\nend entries 2 jobs 0 logs 0 settled 0 failed 0 waiting 0 queued 0 held 0\n";
+
+/// The word of the command that plays a script.
+fn run(alloc: Global) -> Result<Vec<String>, Fail> {
+    let mut words = Vec::new(alloc);
+    words.push(String::from_str(alloc, "run")?)?;
     Ok(words)
 }
 
 #[test]
 fn a_long_line_is_too_large(rt: HostRuntime) -> Result<(), Fail> {
-    let run = words(&rt, &["run"])?;
+    let run = run(rt.alloc())?;
     let line = vec![in rt.alloc(); b'x'; 262_145]?;
+    let mut source = BytesSource::new(line.as_slice());
     let mut sink = BytesSink::new(rt.alloc());
-    let status = replay_main(
-        rt.alloc(),
-        run.as_slice(),
-        &mut BytesSource::new(line.as_slice()),
-        &mut sink,
-    );
+    let status = replay_main(rt.alloc(), run.as_slice(), &mut source, &mut sink);
     assert_eq!(rt; sink.taken(), b"too large 1\n".as_slice());
     assert_eq!(rt; status, 6);
     Ok(())
 }
 
+/// Whether a replay whose source fails at this call, if it comes to it, ends with status 3 just then and
+/// has written a front of the whole.
+fn is_told_at_read(alloc: Global, run: &[String], call: u64) -> Result<bool, Fail> {
+    let failing = vec![in alloc; call]?;
+    let mut source = MemorySource::new(alloc, SCRIPT)
+        .in_pieces(5)
+        .failing(failing);
+    let mut sink = BytesSink::new(alloc);
+    let status = replay_main(alloc, run, &mut source, &mut sink);
+    let wanted = if source.faults() == 0 { 0 } else { 3 };
+    Ok(status == wanted && WHOLE.starts_with(sink.taken()))
+}
+
 #[test]
-fn each_read_and_each_write_may_fail(rt: HostRuntime) -> Result<(), Fail> {
-    let run = words(&rt, &["run"])?;
-    let whole =
-        b"ok\nno NodeRunning 0\nend entries 2 jobs 0 logs 0 settled 0 failed 0 waiting 0 queued 0 held 0\n";
-    for call in 1..10u64 {
-        let failing = vec![in rt.alloc(); call]?;
-        let mut source = MemorySource::new(rt.alloc(), b"start 0\nstart 0\n")
-            .in_pieces(5)
-            .failing(failing);
-        let mut sink = BytesSink::new(rt.alloc());
-        let status = replay_main(rt.alloc(), run.as_slice(), &mut source, &mut sink);
-        assert_eq!(rt; status, if source.faults() == 0 { 0 } else { 3 });
-        assert!(rt; whole.starts_with(sink.taken()));
+fn each_read_may_fail(rt: HostRuntime) -> Result<(), Fail> {
+    let run = run(rt.alloc())?;
+    for call in 1..10 {
+        assert!(rt; is_told_at_read(rt.alloc(), run.as_slice(), call)?);
     }
-    for call in 1..30u64 {
-        let failing = vec![in rt.alloc(); call]?;
-        let mut sink = MemorySink::new(rt.alloc()).in_pieces(7).failing(failing);
-        let mut source = BytesSource::new(b"start 0\nstart 0\n");
-        let status = replay_main(rt.alloc(), run.as_slice(), &mut source, &mut sink);
-        assert_eq!(rt; status, if sink.faults() == 0 { 0 } else { 4 });
-        assert!(rt; whole.starts_with(sink.taken()));
+    Ok(())
+}
+
+/// The same of its sink, with status 4.
+fn is_told_at_write(alloc: Global, run: &[String], call: u64) -> Result<bool, Fail> {
+    let failing = vec![in alloc; call]?;
+    let mut source = BytesSource::new(SCRIPT);
+    let mut sink = MemorySink::new(alloc).in_pieces(7).failing(failing);
+    let status = replay_main(alloc, run, &mut source, &mut sink);
+    let wanted = if sink.faults() == 0 { 0 } else { 4 };
+    Ok(status == wanted && WHOLE.starts_with(sink.taken()))
+}
+
+#[test]
+fn each_write_may_fail(rt: HostRuntime) -> Result<(), Fail> {
+    let run = run(rt.alloc())?;
+    for call in 1..30 {
+        assert!(rt; is_told_at_write(rt.alloc(), run.as_slice(), call)?);
     }
-    let mut full = MemorySink::new(rt.alloc()).in_pieces(0);
-    let status = replay_main(
-        rt.alloc(),
-        run.as_slice(),
-        &mut BytesSource::new(b""),
-        &mut full,
-    );
-    assert_eq!(rt; full.taken(), b"".as_slice());
+    Ok(())
+}
+
+#[test]
+fn a_full_sink_is_told(rt: HostRuntime) -> Result<(), Fail> {
+    let run = run(rt.alloc())?;
+    let mut source = BytesSource::new(b"");
+    let mut sink = MemorySink::new(rt.alloc()).in_pieces(0);
+    let status = replay_main(rt.alloc(), run.as_slice(), &mut source, &mut sink);
     assert_eq!(rt; status, 4);
     Ok(())
 }

@@ -44,10 +44,15 @@ fn copies_are_the_same(rt: HostRuntime) -> Result<(), ParseFault> {
     Ok(())
 }
 
-/// The weekday text of the table above, at its first time and beside it, and the days around.
+/// A weekday text at half past eight, on a clock eight hours ahead of UTC.
+fn weekdays(alloc: Global) -> Result<Schedule, ParseFault> {
+    read(alloc, ScheduleKind::Cron, "0 30 8 ? * MON-FRI")
+}
+
+/// Its first time, and moments beside it.
 #[test]
-fn matches_and_days(rt: HostRuntime) -> Result<(), ParseFault> {
-    let schedule = read(rt.alloc(), ScheduleKind::Cron, "0 30 8 ? * MON-FRI")?;
+fn moments_match(rt: HostRuntime) -> Result<(), ParseFault> {
+    let schedule = weekdays(rt.alloc())?;
     let zone = clock(&rt, 28_800);
     for (moment, due) in [
         (1_717_374_600_000, true),
@@ -58,8 +63,15 @@ fn matches_and_days(rt: HostRuntime) -> Result<(), ParseFault> {
         let moment = Moment::new(moment).expect(&rt, "a moment");
         assert_eq!(rt; schedule.matches(moment, &zone), due);
     }
+    Ok(())
+}
+
+/// 2024-06-01 was a Saturday, and 2024-06-03 the Monday after.
+#[test]
+fn days_match(rt: HostRuntime) -> Result<(), ParseFault> {
+    let schedule = weekdays(rt.alloc())?;
+    let zone = clock(&rt, 28_800);
     let start = Moment::new(1_717_200_000_000).expect(&rt, "a moment");
-    // 2024-06-01 was a Saturday, and 2024-06-03 the Monday after.
     for (day, due) in [
         (19_875, false),
         (19_876, false),
@@ -69,7 +81,7 @@ fn matches_and_days(rt: HostRuntime) -> Result<(), ParseFault> {
     ] {
         let (next, found) = counted::<Brand>(&schedule, start, &zone, day, Blank::new(1));
         assert_eq!(rt; next, 1_717_374_600_000);
-        assert_eq!(rt; found, due, "at {day}");
+        assert_eq!(rt; found, due);
     }
     Ok(())
 }

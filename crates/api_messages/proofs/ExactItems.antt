@@ -5,8 +5,8 @@ use Rattle.std.proofs.lemmas.Bool.{cases_lt, le-ltb, lt-ltb}
 use Rattle.serde_json.specs.Data.{Data, null, boolean, number, string, array, object, Items, no_items, item}
 use Rattle.serde_json.specs.View.{items_of}
 use Rattle.api_messages.specs.Members.{Cell}
-use Rattle.job_values.specs.declared.limits.TheConstants.{LONGEST_BODY}
-use Rattle.api_messages.specs.Meaning.{most_items, IsBody, IsNoJson, IsArray, IsBodyOf, HasBodyFault, AreObjects, MeansItem, MeansAll, IsItemFault, IsFirstFaultyItem, IsCallback, HasCallbackFault}
+use Rattle.job_values.specs.declared.limits.TheConstants.{LONGEST_BODY, BATCH_ITEMS}
+use Rattle.api_messages.specs.Meaning.{IsBody, IsNoJson, IsArray, IsBodyOf, HasBodyFault, AreObjects, MeansItem, MeansAll, IsItemFault, IsFirstFaultyItem, IsCallback, HasCallbackFault}
 use Rattle.api_messages.specs.Reading.{◌>>=◌, value_at, item_in, one_item_at, list_of, all_objects, items_from, items_at, array_in, results_in, callbacks_at}
 use Rattle.api_messages.specs.declared.fault.MessageFault.{MessageFault}
 use Rattle.api_messages.specs.declared.fault.MessageFault.TheVariants as faults
@@ -122,21 +122,21 @@ objects_test ds =
       | inr e ↦ inr ((λ h. let k = objects_pass ds h in absurd cc), e)
     ]
 
-results_pass : (ds : List Data) → AreObjects ds → length ds ≤ most_items → results_in ds ≡ items_at ds
-results_pass ds h few = rw (objects_pass ds h, le-ltb most_items (length ds) few) refl
+results_pass : (ds : List Data) → AreObjects ds → length ds ≤ BATCH_ITEMS → results_in ds ≡ items_at ds
+results_pass ds h few = rw (objects_pass ds h, le-ltb BATCH_ITEMS (length ds) few) refl
 
-results_long : (ds : List Data) → AreObjects ds → most_items < length ds → results_in ds ≡ Err faults.TooLong
-results_long ds h long = rw (objects_pass ds h, lt-ltb most_items (length ds) long) refl
+results_long : (ds : List Data) → AreObjects ds → BATCH_ITEMS < length ds → results_in ds ≡ Err faults.TooLong
+results_long ds h long = rw (objects_pass ds h, lt-ltb BATCH_ITEMS (length ds) long) refl
 
 results_shape : (ds : List Data) → all_objects ds ≡ false → results_in ds ≡ Err faults.WrongShape
 results_shape ds e = rw e refl
 
-results_is : (ds : List Data) (items : List (List Cell)) → results_in ds ≡ Ok items → AreObjects ds × ((length ds ≤ most_items) × MeansAll ds items)
+results_is : (ds : List Data) (items : List (List Cell)) → results_in ds ≡ Ok items → AreObjects ds × ((length ds ≤ BATCH_ITEMS) × MeansAll ds items)
 results_is ds items e =
     elim (objects_test ds) [
       | inr p ↦ let k = results_shape ds p.1 in absurd cc
       | inl objects ↦
-          elim (cases_lt most_items (length ds)) [
+          elim (cases_lt BATCH_ITEMS (length ds)) [
             | inl long ↦ let k = results_long ds objects long in absurd cc
             | inr few ↦
                 let r = items_is [] ds items (sym (results_pass ds objects few) ∙ e) in
@@ -152,7 +152,7 @@ results_fault bytes d ds e body is h =
           let same : e ≡ faults.WrongShape = cc in
           rw same (d, body, λ q. p.0 (subst AreObjects (array_only d q.0 ds q.1 is) q.2))
       | inl objects ↦
-          elim (cases_lt most_items (length ds)) [
+          elim (cases_lt BATCH_ITEMS (length ds)) [
             | inl long ↦ let k = results_long ds objects long in let same : e ≡ faults.TooLong = cc in rw same (inr (d, ds, body, is, objects, long))
             | inr few ↦
                 let f = items_fault [] ds e (sym (results_pass ds objects few) ∙ h) in

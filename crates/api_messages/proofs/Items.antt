@@ -10,7 +10,7 @@ use Rattle.serde_json.specs.Find.{as_array}
 use Rattle.serde_json.specs.declared.value.Value.{Value}
 use Rattle.api_messages.specs.Members.{Cell}
 use Rattle.api_messages.specs.Reading.{Fails, item_in, items_from, items_at, is_object, list_of, array_in, results_in}
-use Rattle.api_messages.specs.Meaning.{most_items}
+use Rattle.job_values.specs.declared.limits.TheConstants.{BATCH_ITEMS}
 use Rattle.api_messages.specs.declared.fault.MessageFault.{MessageFault}
 use Rattle.api_messages.specs.declared.fault.MessageFault.TheVariants.{WrongShape, TooLong}
 
@@ -51,11 +51,11 @@ list_of-items_of (d ∷ ds) = ap (λ x. d ∷ x) (list_of-items_of ds)
 pub not_objects : (values : List Value) (b : Bool) → b ≡ list_all (λ value. is_object (view value)) values → b ≡ false → results_in (map view values) ≡ Err WrongShape
 not_objects values b is fails = rw (list_all-map is_object view values, ← is, fails) refl
 
-pub too_long : (values : List Value) (b : Bool) → b ≡ list_all (λ value. is_object (view value)) values → b ≡ true → most_items < length values → results_in (map view values) ≡ Err TooLong
-too_long values b is holds long = rw (list_all-map is_object view values, ← is, holds, length-map values view, lt-ltb most_items (length values) long) refl
+pub too_long : (values : List Value) (b : Bool) → b ≡ list_all (λ value. is_object (view value)) values → b ≡ true → BATCH_ITEMS < length values → results_in (map view values) ≡ Err TooLong
+too_long values b is holds long = rw (list_all-map is_object view values, ← is, holds, length-map values view, lt-ltb BATCH_ITEMS (length values) long) refl
 
-pub objects : (values : List Value) (b : Bool) → b ≡ list_all (λ value. is_object (view value)) values → b ≡ true → length values ≤ most_items → results_in (map view values) ≡ items_at (map view values)
-objects values b is holds short = rw (list_all-map is_object view values, ← is, holds, length-map values view, le-ltb most_items (length values) short) refl
+pub objects : (values : List Value) (b : Bool) → b ≡ list_all (λ value. is_object (view value)) values → b ≡ true → length values ≤ BATCH_ITEMS → results_in (map view values) ≡ items_at (map view values)
+objects values b is holds short = rw (list_all-map is_object view values, ← is, holds, length-map values view, le-ltb BATCH_ITEMS (length values) short) refl
 
 pub of_array : (d : Data) (values : List Value) → Some (items_view values) ≡ as_array d → array_in d ≡ Ok (map view values)
 of_array d values is = rw (← is, list_of-items_of (map view values)) refl

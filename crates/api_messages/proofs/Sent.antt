@@ -13,8 +13,7 @@ use Rattle.job_values.specs.declared.no_memory.NoMemory.{NoMemory}
 use Rattle.job_values.specs.declared.run.CallbackItem.{CallbackItem}
 use Rattle.api_messages.specs.Members.{Cell}
 use Rattle.api_messages.specs.Tables.{item_rows}
-use Rattle.job_values.specs.declared.limits.TheConstants.{LONGEST_BODY}
-use Rattle.api_messages.specs.Meaning.{most_items}
+use Rattle.job_values.specs.declared.limits.TheConstants.{LONGEST_BODY, BATCH_ITEMS}
 use Rattle.api_messages.specs.Seen.{item_cells}
 use Rattle.api_messages.specs.Reading.{items_from, all_objects, results_in, callbacks_at}
 use Rattle.api_messages.specs.Writing.{Fit, FitAll, object_of, array_of}
@@ -69,10 +68,10 @@ items_again before [] h = no_item before ∙ ap Ok (sym (append-nil before))
 items_again before (cells ∷ items) h =
     first before (object_of item_rows cells) _ cells (item_again cells h.0) ∙ items_again (before ++ cells ∷ []) items h.1 ∙ ap Ok (append_assoc before (cells ∷ []) items)
 
-results_again : (items : List (List Cell)) → length items ≤ most_items → FitAll items → results_in (map (object_of item_rows) items) ≡ Ok items
-results_again items few h = rw (all_are_objects items, length-map items (object_of item_rows), le-ltb most_items (length items) few) (items_again [] items h)
+results_again : (items : List (List Cell)) → length items ≤ BATCH_ITEMS → FitAll items → results_in (map (object_of item_rows) items) ≡ Ok items
+results_again items few h = rw (all_are_objects items, length-map items (object_of item_rows), le-ltb BATCH_ITEMS (length items) few) (items_again [] items h)
 
-callbacks_again : (items : List (List Cell)) (b : List ℕ) → length items ≤ most_items → FitAll items → length b ≤ LONGEST_BODY → IsUtf8 b → read b ≡ Some (array_of items) → callbacks_at b ≡ Ok items
+callbacks_again : (items : List (List Cell)) (b : List ℕ) → length items ≤ BATCH_ITEMS → FitAll items → length b ≤ LONGEST_BODY → IsUtf8 b → read b ≡ Some (array_of items) → callbacks_at b ≡ Ok items
 unfolding callbacks_at
 callbacks_again items b few fits short utf8 reads = rw (value_at-json b _ short utf8 reads, list_of-items_of (map (object_of item_rows) items)) (results_again items few fits)
 
@@ -82,7 +81,7 @@ array_text (Ok b) d items is texts = subst (λ e. has_float e ≡ false → b �
 array_text (Err e) d items is texts = tt
 
 pub array_again : (r : Result (List ℕ) NoMemory) (d : Data) (items : List CallbackItem) → d ≡ array_of (map item_cells items) → FitAll (map item_cells items) → IfOk r IsUtf8
-    → IfOk r (λ b. depth d ≤ max_depth → read b ≡ Some d) → IfOk r (λ b. length b ≤ LONGEST_BODY → length items ≤ most_items → callbacks_at b ≡ Ok (map item_cells items))
+    → IfOk r (λ b. depth d ≤ max_depth → read b ≡ Some d) → IfOk r (λ b. length b ≤ LONGEST_BODY → length items ≤ BATCH_ITEMS → callbacks_at b ≡ Ok (map item_cells items))
 array_again (Ok b) d items is fits utf8 reads =
     λ short few.
     let within : depth (array_of (map item_cells items)) ≤ max_depth = omega (arith, array_depth items) in

@@ -3,6 +3,7 @@ use Rattle.std.specs.Prelude.{◌≡◌, ◌↔◌, ℕ, ◌&&◌, List, [], ◌
 use Rattle.std.specs.Ordering.{nat_cmp, is_lt}
 use Rattle.std.specs.Cmp.Lexicographic.{slice_cmp}
 use Rattle.serde_json.specs.View.{view}
+use Rattle.job_values.specs.declared.limits.TheConstants.{LAST_JOB_ID, LAST_LOG_ID, LAST_SECONDS, LAST_SHARD, LAST_LINE, LAST_LOG_MOMENT, LONGEST_NAME, LONGEST_RUN_PARAM, LONGEST_RUN_WORD, LONGEST_RESULT, LONGEST_BODY, BATCH_ITEMS}
 use Rattle.job_values.specs.declared.run.CallbackItem.{CallbackItem}
 use Rattle.api_messages.specs.Members.{Cell, Row}
 use Rattle.api_messages.specs.Tables.{run_rows, job_rows, log_rows, log_answer_rows, item_rows, result_rows, registry_rows, return_rows, manage_rows}
@@ -64,3 +65,18 @@ pub record SameValues : Type 0 where
   pub return_content : (m n : ReturnMessage) → return_cells m ≡ return_cells n → option_map view m.content ≡ option_map view n.content
   pub return_msg : (m n : ReturnMessage) → return_cells m ≡ return_cells n → m.msg ≡ n.msg
   pub manage : (m n : ManageMessage) → manage_cells m ≡ manage_cells n → m ≡ n
+
+-- the bounds of messages and of their members, as numbers
+pub record BoundsAre : Type 0 where
+  pub job : LAST_JOB_ID ≡ 2147483647
+  pub log : LAST_LOG_ID ≡ 9223372036854775807
+  pub timeout : LAST_SECONDS ≡ 2147483647
+  pub shard : LAST_SHARD ≡ 2147483647
+  pub line : LAST_LINE ≡ 2147483647
+  pub log_moment : LAST_LOG_MOMENT ≡ 9223372036854775807
+  pub name : LONGEST_NAME ≡ 255
+  pub run_param : LONGEST_RUN_PARAM ≡ 65536
+  pub run_word : LONGEST_RUN_WORD ≡ 64
+  pub result_text : LONGEST_RESULT ≡ 15000
+  pub body : LONGEST_BODY ≡ 1048576
+  pub items : BATCH_ITEMS ≡ 1000

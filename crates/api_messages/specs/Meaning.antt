@@ -6,7 +6,7 @@ use Rattle.serde_json.specs.Data.{Num, Data, null, boolean, number, string, arra
 use Rattle.serde_json.specs.Find.{get, as_integer}
 use Rattle.serde_json.specs.Read.{read}
 use Rattle.serde_json.specs.View.{items_of}
-use Rattle.job_values.specs.declared.limits.TheConstants.{LONGEST_BODY}
+use Rattle.job_values.specs.declared.limits.TheConstants.{LONGEST_BODY, BATCH_ITEMS}
 use Rattle.api_messages.specs.Members.{Cell, int, text, bool, value, Kind, whole, not_negative, text_within, any_text, cut_text, truth, any_value, Row}
 use Rattle.api_messages.specs.Tables.{told_rows, place_rows, result_rows}
 use Rattle.api_messages.specs.declared.fault.MessageFault.{MessageFault}
@@ -52,10 +52,6 @@ Means _ d _ = ⊥
 abbrev pub IsFirstFaulty : List Row → Data → List ℕ → Type 0
 IsFirstFaulty rows d name =
     (before after : List Row) × (row : Row) × (cells : List Cell) × (rows ≡ before ++ row ∷ after) × Means before d cells × ((c : Cell) → ¬ (Has row d c)) × (name ≡ row.name)
-
--- the most items of a callback
-abbrev pub most_items : ℕ
-most_items = 1000
 
 -- the bytes are a body of this JSON value
 pub record IsBody (bytes : List ℕ) (d : Data) : Type 0 where
@@ -143,14 +139,14 @@ IsFirstFaultyItem ds name =
 
 abbrev pub IsCallback : List ℕ → List (List Cell) → Type 0
 IsCallback bytes items =
-    (d : Data) × (ds : List Data) × IsBody bytes d × IsArray d ds × AreObjects ds × (length ds ≤ most_items) × MeansAll ds items
+    (d : Data) × (ds : List Data) × IsBody bytes d × IsArray d ds × AreObjects ds × (length ds ≤ BATCH_ITEMS) × MeansAll ds items
 
 -- the first fault of a body that is no callback
 abbrev pub HasCallbackFault : List ℕ → MessageFault → Type 0
 HasCallbackFault bytes faults.TooLong =
-    (LONGEST_BODY < length bytes) ⊎ ((d : Data) × (ds : List Data) × IsBody bytes d × IsArray d ds × AreObjects ds × (most_items < length ds))
+    (LONGEST_BODY < length bytes) ⊎ ((d : Data) × (ds : List Data) × IsBody bytes d × IsArray d ds × AreObjects ds × (BATCH_ITEMS < length ds))
 HasCallbackFault bytes faults.NotJson = (length bytes ≤ LONGEST_BODY) × IsNoJson bytes
 HasCallbackFault bytes faults.WrongShape = (d : Data) × IsBody bytes d × ¬ ((ds : List Data) × IsArray d ds × AreObjects ds)
 HasCallbackFault bytes (faults.Member which) =
-    (d : Data) × (ds : List Data) × IsBody bytes d × IsArray d ds × AreObjects ds × (length ds ≤ most_items) × IsFirstFaultyItem ds which
+    (d : Data) × (ds : List Data) × IsBody bytes d × IsArray d ds × AreObjects ds × (length ds ≤ BATCH_ITEMS) × IsFirstFaultyItem ds which
 HasCallbackFault bytes faults.NoMemory = ⊥

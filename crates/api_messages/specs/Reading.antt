@@ -8,8 +8,7 @@ use Rattle.serde_json.specs.Data.{Data, Items, no_items, item}
 use Rattle.serde_json.specs.Find.{get, as_null, as_number, as_integer, as_str, as_bool, as_array, as_object}
 use Rattle.serde_json.specs.Read.{read}
 use Rattle.api_messages.specs.Members.{Cell, int, text, bool, value, Kind, whole, not_negative, text_within, any_text, cut_text, truth, any_value, Row}
-use Rattle.job_values.specs.declared.limits.TheConstants.{LONGEST_BODY}
-use Rattle.api_messages.specs.Meaning.{most_items}
+use Rattle.job_values.specs.declared.limits.TheConstants.{LONGEST_BODY, BATCH_ITEMS}
 use Rattle.api_messages.specs.Tables.{told_rows, place_rows, result_rows}
 use Rattle.api_messages.specs.declared.fault.MessageFault.{MessageFault}
 use Rattle.api_messages.specs.declared.fault.MessageFault.TheVariants as faults
@@ -170,7 +169,7 @@ abbrev pub array_in : Data → Result (List Data) MessageFault
 array_in d = or_fault faults.WrongShape (option_map list_of (as_array d))
 
 abbrev pub results_in : List Data → Result (List (List Cell)) MessageFault
-results_in ds = if all_objects ds then (if nat_lt most_items (length ds) then Err faults.TooLong else items_at ds) else Err faults.WrongShape
+results_in ds = if all_objects ds then (if nat_lt BATCH_ITEMS (length ds) then Err faults.TooLong else items_at ds) else Err faults.WrongShape
 
 -- the values of each item
 unfoldable pub callbacks_at : List ℕ → Result (List (List Cell)) MessageFault

@@ -3,8 +3,7 @@ ghost use Rattle.std.specs.Prelude.{◌≡◌, ◌≤◌, length, map, Ok, IfOk}
 ghost use Rattle.std.specs.List.{list_all};
 ghost use Rattle.serde_json.specs.View.{view};
 ghost use Rattle.serde_json.specs.Written.{compact_text};
-ghost use Rattle.job_values.specs.declared.limits.TheConstants.{LONGEST_BODY};
-ghost use Rattle.api_messages.specs.Meaning.{most_items};
+ghost use Rattle.job_values.specs.declared.limits.TheConstants.{LONGEST_BODY, BATCH_ITEMS};
 ghost use Rattle.api_messages.specs.Reading.{Gives, is_object, items_at, results_in, callbacks_at};
 ghost use Rattle.api_messages.specs.Seen.{item_cells};
 ghost use Rattle.api_messages.specs.Writing.{FitAll, array_of};
@@ -13,12 +12,10 @@ use crate::body::value_of;
 use crate::fault::MessageFault;
 use crate::item::{item_of, item_value};
 use crate::written::text_of;
+use job_values::limits::BATCH_ITEMS;
 use job_values::{CallbackItem, NoMemory, Seq};
 use serde_json::Value;
 use std::alloc::{AllocError, Global};
-
-/// The most results of one callback.
-pub const MOST_ITEMS: usize = 1000;
 
 fn all_objects(values: &[Value]) -> bool
     ensures { result ≡ list_all (λ value. is_object (view value)) values.now }
@@ -43,7 +40,7 @@ fn results_of(alloc: Global, values: &[Value]) -> Result<Seq<CallbackItem>, Mess
     if !all_objects(values) {
         return Err(MessageFault::WrongShape);
     }
-    if values.len() > MOST_ITEMS {
+    if values.len() > BATCH_ITEMS {
         return Err(MessageFault::TooLong);
     }
     let items = items_of(alloc, values)?;
@@ -73,10 +70,10 @@ fn array_value(alloc: Global, items: &[CallbackItem]) -> Result<Value, AllocErro
     Ok(Value::Array(values))
 }
 
-/// The text of a callback of at most 1,000 results.
+/// The text of a callback; one of at most `BATCH_ITEMS` results is read back.
 pub fn write_callbacks(alloc: Global, items: &Seq<CallbackItem>) -> Result<Seq<u8>, NoMemory>
     ensures text { IfOk result (λ b. b ≡ compact_text (array_of (map item_cells items.now))) }
-    ensures reads { IfOk result (λ b. length b ≤ LONGEST_BODY → length items.now ≤ most_items
+    ensures reads { IfOk result (λ b. length b ≤ LONGEST_BODY → length items.now ≤ BATCH_ITEMS
         → callbacks_at b ≡ Ok (map item_cells items.now)) }
 {
     let Ok(value) = array_value(alloc, items.as_slice()) else {

@@ -18,7 +18,7 @@ pub enum MessageFault {
     /// A member is missing or out of form: the first in byte order of names, in the first faulty item.
     #[error("faulty member")]
     Member { which: Text },
-    /// The body has more than 1,048,576 bytes, or a callback more than 1,000 items.
+    /// The body has more than `LONGEST_BODY` bytes, or a callback more than `BATCH_ITEMS` items.
     #[error("too long")]
     TooLong,
     /// Memory ran out.

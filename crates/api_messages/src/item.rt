@@ -3,7 +3,7 @@
 ghost use Rattle.std.specs.Prelude.{◌≡◌, ◌≤◌, [], ◌∷◌, length, option_map, Ok, IfOk};
 ghost use Rattle.serde_json.specs.View.{view};
 ghost use Rattle.serde_json.specs.Written.{compact_text};
-ghost use Rattle.job_values.specs.declared.limits.TheConstants.{LONGEST_BODY};
+ghost use Rattle.job_values.specs.declared.limits.TheConstants.{LONGEST_BODY, LONGEST_RESULT};
 ghost use Rattle.api_messages.specs.Members.{text, cut_text as cut_kind, required, optional};
 ghost use Rattle.api_messages.specs.Tables.{signed as signed_kind, item_rows};
 ghost use Rattle.api_messages.specs.Reading.{Gives, cells_at, result_in, older_result, told_in, item_in, one_item_at};
@@ -30,7 +30,7 @@ pub(crate) struct Told {
 /// The code and the text that these two members of an object are.
 fn members_of(alloc: Global, object: &Value, code: &str, msg: &str) -> Result<Told, MessageFault>
     ensures { Gives told_cells result (cells_at (required code.now signed_kind
-        ∷ optional msg.now (cut_kind 15000) (text []) ∷ []) (view object.now)) }
+        ∷ optional msg.now (cut_kind LONGEST_RESULT) (text []) ∷ []) (view object.now)) }
 {
     let code = signed(alloc, object, code)?;
     let msg = cut_text(alloc, object, msg, LONGEST_RESULT)?;

@@ -1,7 +1,5 @@
 //! What holds of every body and every message.
-ghost use Rattle.std.specs.Prelude.{◌≡◌};
-ghost use Rattle.job_values.specs.declared.limits.TheConstants.{LONGEST_BODY};
-ghost use Rattle.api_messages.specs.Laws.{MessageExact, FaultExact, ItemExact, ItemFaultExact, CallbackExact, CallbackFaultExact, TablesInOrder, SameValues};
+ghost use Rattle.api_messages.specs.Laws.{MessageExact, FaultExact, ItemExact, ItemFaultExact, CallbackExact, CallbackFaultExact, TablesInOrder, SameValues, BoundsAre};
 
 /// Reading a body gives exactly the message that the body means member by member, and each refusal
 /// is exactly the first fault. This holds of every table of members.
@@ -29,7 +27,7 @@ pub fn law_values()
     ensures { SameValues }
 {}
 
-/// The numbers that the definitions cite.
+/// The bounds that the definitions cite, as numbers.
 pub fn law_numbers()
-    ensures { LONGEST_BODY ≡ 1048576 }
+    ensures { BoundsAre }
 {}

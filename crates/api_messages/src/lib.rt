@@ -19,7 +19,7 @@ mod text_member;
 mod token;
 mod written;
 
-pub use callbacks::{MOST_ITEMS, read_callbacks, write_callbacks};
+pub use callbacks::{read_callbacks, write_callbacks};
 pub use fault::MessageFault;
 pub use idle_beat::{IdleBeatMessage, read_idle_beat, write_idle_beat};
 pub use item::{read_item, write_item};

@@ -10,7 +10,7 @@ ghost use Rattle.api_messages.specs.Writing.{Fit, object_of};
 
 use crate::body::object_of;
 use crate::fault::MessageFault;
-use crate::member::{log_id, milliseconds, seconds};
+use crate::member::{line_number, log_id, log_milliseconds};
 use crate::written::text_of;
 use job_values::{LogId, NoMemory, Seq};
 use serde_json::{Value, json};
@@ -29,8 +29,8 @@ pub struct LogMessage {
 fn log_of(alloc: Global, object: &Value) -> Result<LogMessage, MessageFault>
     ensures { Gives log_cells result (cells_at log_rows (view object.now)) }
 {
-    let from_line_num = seconds(alloc, object, "fromLineNum", 1)?;
-    let log_date_tim = milliseconds(alloc, object, "logDateTim")?;
+    let from_line_num = line_number(alloc, object, "fromLineNum")?;
+    let log_date_tim = log_milliseconds(alloc, object, "logDateTim")?;
     let log_id = log_id(alloc, object)?;
     Ok(LogMessage {
         from_line_num,

@@ -2,11 +2,15 @@
 ghost use Rattle.std.specs.Prelude.{◌≡◌, ℤ, pos, negsuc, ◌≤ℤ◌, ◌≤◌, Some, None, Err, IfOk, IfSome, option_map, option_and_then, codes};
 ghost use Rattle.std.specs.Option.{ForSome};
 ghost use Rattle.serde_json.specs.View.{view};
+ghost use Rattle.job_values.specs.declared.limits.TheConstants.{LAST_SHARD, LAST_LOG_MOMENT};
 ghost use Rattle.api_messages.specs.Members.{Cell, int, whole, not_negative, required, optional, row};
-ghost use Rattle.api_messages.specs.Tables.{count, signed, seconds, milliseconds, job_number, log_number};
+ghost use Rattle.api_messages.specs.Tables.{count, signed, seconds, line_number, milliseconds, log_moment, job_number, log_number};
 ghost use Rattle.api_messages.specs.Reading.{Gives, Fails, found, within, whole_in, present, cell_at};
 
 use crate::fault::MessageFault;
+use job_values::limits::{
+    LAST_JOB_ID, LAST_LINE, LAST_LOG_ID, LAST_LOG_MOMENT, LAST_SECONDS, LAST_SHARD,
+};
 use job_values::{JobId, LogId, LogMoment, Text};
 use serde_json::Value;
 use std::alloc::Global;
@@ -106,25 +110,19 @@ fn amount(
     }
 }
 
-/// A number from 0 to 2^31 - 1.
+/// The index of a shard, or how many there are.
 pub(crate) fn count(
     alloc: Global,
     object: &Value,
     name: &str,
     missing: u32,
 ) -> Result<u32, MessageFault>
-    requires { missing ≤ 2147483647 }
+    requires { missing ≤ LAST_SHARD }
     ensures { Gives (λ n. int (pos n)) result
         (cell_at (optional name.now count (int (pos missing))) (view object.now)) }
 {
-    let n = number(
-        alloc,
-        object,
-        name,
-        0,
-        2_147_483_647,
-        Some(i64::from(missing)),
-    )?;
+    let last = i64::from(LAST_SHARD);
+    let n = number(alloc, object, name, 0, last, Some(i64::from(missing)))?;
     Ok(n as u32)
 }
 
@@ -136,35 +134,47 @@ pub(crate) fn signed(alloc: Global, object: &Value, name: &str) -> Result<i32, M
     Ok(n as i32)
 }
 
-/// A number of 32 bits, a negative one read as 0.
-pub(crate) fn seconds(
-    alloc: Global,
-    object: &Value,
-    name: &str,
-    missing: u32,
-) -> Result<i32, MessageFault>
-    requires { missing ≤ 2147483647 }
+/// A timeout in seconds, a negative one read as 0, and 0 for a missing one.
+pub(crate) fn seconds(alloc: Global, object: &Value, name: &str) -> Result<i32, MessageFault>
     ensures { Gives int result
-        (cell_at (optional name.now seconds (int (pos missing))) (view object.now)) }
+        (cell_at (optional name.now seconds (int (pos 0))) (view object.now)) }
 {
-    let n = amount(
-        alloc,
-        object,
-        name,
-        -2_147_483_648,
-        2_147_483_647,
-        i64::from(missing),
-    )?;
+    let last = i64::from(LAST_SECONDS);
+    let n = amount(alloc, object, name, -2_147_483_648, last, 0)?;
     Ok(n as i32)
 }
 
-/// A number of 64 bits, a negative one read as 0, and 0 for a missing one.
+/// The number of a line, a negative one read as 0, and 1 for a missing one.
+pub(crate) fn line_number(alloc: Global, object: &Value, name: &str) -> Result<i32, MessageFault>
+    ensures { Gives int result
+        (cell_at (optional name.now line_number (int (pos 1))) (view object.now)) }
+{
+    let last = i64::from(LAST_LINE);
+    let n = amount(alloc, object, name, -2_147_483_648, last, 1)?;
+    Ok(n as i32)
+}
+
+/// A moment in milliseconds, a negative one read as 0, and 0 for a missing one.
 pub(crate) fn milliseconds(alloc: Global, object: &Value, name: &str) -> Result<i64, MessageFault>
     ensures value { Gives int result
         (cell_at (optional name.now milliseconds (int (pos 0))) (view object.now)) }
     ensures low { IfOk result (λ z. pos 0 ≤ℤ z) }
 {
     amount(alloc, object, name, i64::MIN, i64::MAX, 0)
+}
+
+/// The milliseconds of a moment of a log, a negative one read as 0, and 0 for a missing one.
+pub(crate) fn log_milliseconds(
+    alloc: Global,
+    object: &Value,
+    name: &str,
+) -> Result<i64, MessageFault>
+    ensures value { Gives int result
+        (cell_at (optional name.now log_moment (int (pos 0))) (view object.now)) }
+    ensures low { IfOk result (λ z. pos 0 ≤ℤ z) }
+    ensures high { IfOk result (λ z. z ≤ℤ pos LAST_LOG_MOMENT) }
+{
+    amount(alloc, object, name, i64::MIN, LAST_LOG_MOMENT as i64, 0)
 }
 
 /// A moment of a log, a negative one read as 0, and 0 for a missing one.
@@ -174,9 +184,9 @@ pub(crate) fn log_moment(
     name: &str,
 ) -> Result<LogMoment, MessageFault>
     ensures { Gives (λ n. int (pos n)) result
-        (cell_at (optional name.now milliseconds (int (pos 0))) (view object.now)) }
+        (cell_at (optional name.now log_moment (int (pos 0))) (view object.now)) }
 {
-    let n = milliseconds(alloc, object, name)?;
+    let n = log_milliseconds(alloc, object, name)?;
     match LogMoment::new(n as u64) {
         Some(moment) => Ok(moment),
         None => unreachable!(),
@@ -188,7 +198,7 @@ pub(crate) fn job_id(alloc: Global, object: &Value) -> Result<JobId, MessageFaul
     ensures { Gives (λ id. int (pos id)) result
         (cell_at (required (codes "jobId") job_number) (view object.now)) }
 {
-    let n = number(alloc, object, "jobId", 1, 2_147_483_647, None)?;
+    let n = number(alloc, object, "jobId", 1, i64::from(LAST_JOB_ID), None)?;
     match JobId::new(n as u32) {
         Some(id) => Ok(id),
         None => unreachable!(),
@@ -200,7 +210,7 @@ pub(crate) fn log_id(alloc: Global, object: &Value) -> Result<LogId, MessageFaul
     ensures { Gives (λ id. int (pos id)) result
         (cell_at (required (codes "logId") log_number) (view object.now)) }
 {
-    let n = number(alloc, object, "logId", 1, i64::MAX, None)?;
+    let n = number(alloc, object, "logId", 1, LAST_LOG_ID as i64, None)?;
     match LogId::new(n as u64) {
         Some(id) => Ok(id),
         None => unreachable!(),

@@ -12,11 +12,13 @@ use crate::body::object_of;
 use crate::fault::MessageFault;
 use crate::text_member::short_text;
 use crate::written::text_of;
+use job_values::limits::LONGEST_NAME;
 use job_values::{NoMemory, Seq, Text};
 use serde_json::{Value, json};
 use std::alloc::{AllocError, Global};
 
-/// Tells an admin that an executor is there, or no longer. Each text has at most 255 bytes.
+/// Tells an admin that an executor is there, or no longer. Each text has at most
+/// `LONGEST_NAME` bytes.
 #[derive(Drop)]
 pub struct RegistryMessage {
     pub registry_group: Text,
@@ -29,9 +31,9 @@ pub struct RegistryMessage {
 fn registry_of(alloc: Global, object: &Value) -> Result<RegistryMessage, MessageFault>
     ensures { Gives registry_cells result (cells_at registry_rows (view object.now)) }
 {
-    let registry_group = short_text(alloc, object, "registryGroup", 255, "")?;
-    let registry_key = short_text(alloc, object, "registryKey", 255, "")?;
-    let registry_value = short_text(alloc, object, "registryValue", 255, "")?;
+    let registry_group = short_text(alloc, object, "registryGroup", LONGEST_NAME, "")?;
+    let registry_key = short_text(alloc, object, "registryKey", LONGEST_NAME, "")?;
+    let registry_value = short_text(alloc, object, "registryValue", LONGEST_NAME, "")?;
     Ok(RegistryMessage {
         registry_group,
         registry_key,

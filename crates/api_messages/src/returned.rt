@@ -21,7 +21,7 @@ use std::alloc::{AllocError, Global};
 /// The answer to a call.
 #[derive(Drop)]
 pub struct ReturnMessage {
-    /// 200 where the call was taken.
+    /// `SUCCESS` where the call was taken.
     pub code: i32,
     /// What the call gives.
     pub content: Option<Value>,

@@ -10,9 +10,10 @@ ghost use Rattle.api_messages.specs.Writing.{Fit, object_of};
 
 use crate::body::object_of;
 use crate::fault::MessageFault;
-use crate::member::{count, job_id, log_id, milliseconds, seconds};
+use crate::member::{count, job_id, log_id, log_milliseconds, milliseconds, seconds};
 use crate::text_member::{long_text, short_text};
 use crate::written::text_of;
+use job_values::limits::{LONGEST_NAME, LONGEST_RUN_PARAM, LONGEST_RUN_WORD};
 use job_values::{JobId, LogId, NoMemory, Seq, Text};
 use serde_json::{Value, json};
 use std::alloc::{AllocError, Global};
@@ -20,20 +21,20 @@ use std::alloc::{AllocError, Global};
 /// Asks an executor to run a job.
 #[derive(Drop)]
 pub struct RunMessage {
-    /// The index among the addresses, from 0 to 2^31 - 1.
+    /// The index among the addresses, from 0 to `LAST_SHARD`.
     pub broadcast_index: u32,
-    /// How many addresses, from 0 to 2^31 - 1.
+    /// How many addresses, from 0 to `LAST_SHARD`.
     pub broadcast_total: u32,
-    /// At most 64 bytes; a text that is no known strategy is kept, and runs serially.
+    /// At most `LONGEST_RUN_WORD` bytes; a text that is no known strategy is kept, and runs serially.
     pub executor_block_strategy: Text,
-    /// At most 255 bytes.
+    /// At most `LONGEST_NAME` bytes.
     pub executor_handler: Text,
-    /// At most 65,536 bytes.
+    /// At most `LONGEST_RUN_PARAM` bytes.
     pub executor_params: Text,
     /// In seconds; 0 is no limit.
     pub executor_timeout: i32,
     pub glue_source: Text,
-    /// At most 64 bytes.
+    /// At most `LONGEST_RUN_WORD` bytes.
     pub glue_type: Text,
     /// In milliseconds.
     pub glue_updatetime: i64,
@@ -52,17 +53,17 @@ fn run_of(alloc: Global, object: &Value) -> Result<RunMessage, MessageFault>
         alloc,
         object,
         "executorBlockStrategy",
-        64,
+        LONGEST_RUN_WORD,
         "SERIAL_EXECUTION",
     )?;
-    let executor_handler = short_text(alloc, object, "executorHandler", 255, "")?;
-    let executor_params = short_text(alloc, object, "executorParams", 65_536, "")?;
-    let executor_timeout = seconds(alloc, object, "executorTimeout", 0)?;
+    let executor_handler = short_text(alloc, object, "executorHandler", LONGEST_NAME, "")?;
+    let executor_params = short_text(alloc, object, "executorParams", LONGEST_RUN_PARAM, "")?;
+    let executor_timeout = seconds(alloc, object, "executorTimeout")?;
     let glue_source = long_text(alloc, object, "glueSource")?;
-    let glue_type = short_text(alloc, object, "glueType", 64, "BEAN")?;
+    let glue_type = short_text(alloc, object, "glueType", LONGEST_RUN_WORD, "BEAN")?;
     let glue_updatetime = milliseconds(alloc, object, "glueUpdatetime")?;
     let job_id = job_id(alloc, object)?;
-    let log_date_time = milliseconds(alloc, object, "logDateTime")?;
+    let log_date_time = log_milliseconds(alloc, object, "logDateTime")?;
     let log_id = log_id(alloc, object)?;
     Ok(RunMessage {
         broadcast_index,

@@ -6,8 +6,8 @@ use Rattle.api_messages.proofs.callbacks.results_of.Goals as goal
 pub returns-then-not-all_objects : goal.returns-then-not-all_objects
 returns-then-not-all_objects c = inr (not_objects c.args.values.now c.all_objects.result c.all_objects.ensures c.if-not-all_objects.true)
 
-pub returns-then-values-gt-MOST_ITEMS : goal.returns-then-values-gt-MOST_ITEMS
-returns-then-values-gt-MOST_ITEMS c = inr (too_long c.args.values.now c.all_objects.result c.all_objects.ensures c.if-not-all_objects.false (omega arith))
+pub returns-then-values-gt-BATCH_ITEMS : goal.returns-then-values-gt-BATCH_ITEMS
+returns-then-values-gt-BATCH_ITEMS c = inr (too_long c.args.values.now c.all_objects.result c.all_objects.ensures c.if-not-all_objects.false (omega arith))
 
 pub returns-in_err-items : goal.returns-in_err-items
 returns-in_err-items c =

@@ -1,11 +1,8 @@
 -- How words that are none of `run` are answered.
-use Rattle.std.proofs.Common.{◌≡◌, ◌⊎◌, ℕ, List, Some, None, Err, refl, sym, subst, inl, inr}
+use Rattle.std.proofs.Common.{◌≡◌, ◌⊎◌, ℕ, List, Some, None, refl, inl, inr}
 use Rattle.std.specs.Prelude.{Option, IsNone}
-use Rattle.job_values.specs.declared.fault.ScheduleFault.{ScheduleFault}
 use Rattle.cluster_history.specs.declared.settings.Settings.{Settings}
-use Rattle.cron_schedule.specs.Parse.{parsed}
-use Rattle.replay_program.specs.Times.{fault_text}
-use Rattle.replay_program.specs.Next.{Wrote, NextEnds, OtherEnds, answer_text, answer_status}
+use Rattle.replay_program.specs.Next.{OtherEnds}
 use Rattle.line_program.specs.Outcome.{code_of}
 use Rattle.replay_program.specs.declared.next.Ask.{Ask}
 use Rattle.line_program.specs.declared.status.Status.{Status}

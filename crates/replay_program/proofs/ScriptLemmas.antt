@@ -1,5 +1,5 @@
 -- A script with one line more.
-use Rattle.std.proofs.Common.{◌≡◌, ℕ, ◌+◌, ◌-◌, ◌^◌, ◌≤◌, min, List, [], ◌∷◌, ◌++◌, length, refl, ap, sym, ◌∙◌, subst, arith}
+use Rattle.std.proofs.Common.{◌≡◌, ℕ, ◌+◌, ◌≤◌, List, [], ◌∷◌, ◌++◌, length, refl, ap, sym, ◌∙◌, subst, arith}
 use Rattle.job_events.specs.declared.report.Report.{Report}
 use Rattle.job_events.specs.declared.cluster.ClusterEvent.{ClusterEvent}
 use Rattle.job_events.specs.declared.cluster.ClusterReply.{ClusterReply}

@@ -19,6 +19,7 @@ use Rattle.line_program.specs.Ports.{Ports}
 use Rattle.line_program.specs.Outcome.{RunEnds}
 use Rattle.replay_program.specs.Outcome.{WordsEnd}
 use Rattle.replay_program.specs.Script.{script}
+use Rattle.replay_program.specs.declared.limits.TheConstants.{MOST_TIMES}
 use Rattle.replay_program.specs.declared.next.Ask.{Ask}
 use Rattle.line_program.specs.declared.status.Status.{Status}
 use Rattle.line_program.specs.declared.status.Status.TheVariants as status
@@ -40,11 +41,11 @@ ask_from _ text _ _ _ zone = None
 abbrev pub next_said : List (List ℕ) → Option Ask
 next_said (word ∷ kind ∷ text ∷ offset ∷ at ∷ count ∷ []) =
     if bytes_eq word (codes "next")
-    then ask_from (kind_said kind) text (offset_said offset) (number_within 0 LAST_MOMENT at) (number_within 1 1000 count) []
+    then ask_from (kind_said kind) text (offset_said offset) (number_within 0 LAST_MOMENT at) (number_within 1 MOST_TIMES count) []
     else None
 next_said (word ∷ kind ∷ text ∷ offset ∷ at ∷ count ∷ zone ∷ []) =
     if bytes_eq word (codes "next")
-    then ask_from (kind_said kind) text (offset_said offset) (number_within 0 LAST_MOMENT at) (number_within 1 1000 count) zone
+    then ask_from (kind_said kind) text (offset_said offset) (number_within 0 LAST_MOMENT at) (number_within 1 MOST_TIMES count) zone
     else None
 next_said _ = None
 

@@ -1,8 +1,10 @@
 -- The words of a command.
-use Rattle.std.specs.Prelude.{ℕ, ◌+◌, ◌-◌, ◌*◌, ◌==◌, ◌&&◌, nat_le, ℤ, pos, neg_ℤ, List, [], ◌∷◌, Option, Some, None, codes, option_map, option_and_then, if◌then◌else◌}
+use Rattle.std.specs.Prelude.{ℕ, ◌+◌, ◌-◌, ◌*◌, ◌==◌, ◌&&◌, nat_le, ℤ, pos, neg_ℤ, nat_abs, List, [], ◌∷◌, Option, Some, None, codes, option_map, option_and_then, if◌then◌else◌}
 use Rattle.std.specs.Char.{is_ascii_digit}
 use Rattle.std.specs.Str.{bytes_eq}
+use Rattle.job_values.specs.declared.limits.TheConstants.{LAST_OFFSET}
 use Rattle.cluster_history.specs.declared.settings.Settings.{Settings}
+use Rattle.replay_program.specs.declared.limits.TheConstants.{MOST_FAST, MOST_SLOW}
 
 -- the number that decimal digits spell, behind those that were read before
 abbrev pub digits_from : ℕ → List ℕ → Option ℕ
@@ -27,8 +29,8 @@ abbrev pub offset_said : List ℕ → Option ℤ
 offset_said [] = None
 offset_said (b ∷ bs) =
     if b == 45
-    then option_map (λ n. neg_ℤ (pos n)) (number_within 0 64800 bs)
-    else option_map pos (number_within 0 64800 (b ∷ bs))
+    then option_map (λ n. neg_ℤ (pos n)) (number_within 0 (nat_abs LAST_OFFSET) bs)
+    else option_map pos (number_within 0 (nat_abs LAST_OFFSET) (b ∷ bs))
 
 -- the settings of `run` alone: no offset, 8 threads for the fast pool and 4 for the slow one
 abbrev pub usual_settings : Settings
@@ -43,6 +45,6 @@ abbrev pub settings_said : List (List ℕ) → Option Settings
 settings_said (word ∷ []) = if bytes_eq word (codes "run") then Some usual_settings else None
 settings_said (word ∷ offset ∷ fast ∷ slow ∷ []) =
     if bytes_eq word (codes "run")
-    then settings_from (offset_said offset) (number_within 1 200 fast) (number_within 1 100 slow)
+    then settings_from (offset_said offset) (number_within 1 MOST_FAST fast) (number_within 1 MOST_SLOW slow)
     else None
 settings_said _ = None

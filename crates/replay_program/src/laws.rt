@@ -1,5 +1,5 @@
-//! What holds of all scripts, and the number that the definitions cite.
-ghost use Rattle.replay_program.specs.Laws.{EachLineEndsOnce, LastMomentIs};
+//! What holds of all scripts, and the numbers that the definitions cite.
+ghost use Rattle.replay_program.specs.Laws.{EachLineEndsOnce, BoundsAre};
 
 /// Each line of an event has one end of a line, at its end: so the lines of a script are cut as they
 /// were put together.
@@ -7,7 +7,7 @@ pub fn law_lines_end()
     ensures { EachLineEndsOnce }
 {}
 
-/// The last moment as a number.
+/// The bounds of the words of a command as numbers.
 pub fn law_numbers()
-    ensures { LastMomentIs }
+    ensures { BoundsAre }
 {}

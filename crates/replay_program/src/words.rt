@@ -3,9 +3,10 @@ ghost use Rattle.std.specs.Prelude.{◌≡◌, ◌≤◌, ◌^◌, map, string_b
 ghost use Rattle.replay_program.specs.Words.{settings_said, usual_settings, digits_from, number_said, number_within, in_bounds, offset_said};
 ghost use Rattle.replay_program.specs.Next.{kind_said, ask_from, next_said};
 
+use super::limits::{MOST_FAST, MOST_SLOW, MOST_TIMES};
 use super::next::Ask;
 use cluster_history::Settings;
-use job_values::limits::LAST_MOMENT;
+use job_values::limits::{LAST_MOMENT, LAST_OFFSET};
 use job_values::{Moment, NoMemory, Offset, ScheduleKind, Text};
 use std::alloc::Global;
 
@@ -62,11 +63,11 @@ fn offset(word: &[u8]) -> Option<Offset>
     ensures { result ≡ offset_said word.now }
 {
     match word {
-        [b'-', rest @ ..] => match number(rest, 0, 64_800) {
+        [b'-', rest @ ..] => match number(rest, 0, LAST_OFFSET as u64) {
             Some(n) => Offset::new(-(n as i32)),
             None => None,
         },
-        _ => match number(word, 0, 64_800) {
+        _ => match number(word, 0, LAST_OFFSET as u64) {
             Some(n) => Offset::new(n as i32),
             None => None,
         },
@@ -95,9 +96,9 @@ fn moment(word: &[u8]) -> Option<Moment>
 
 /// How many times are to be told.
 fn times(word: &[u8]) -> Option<u32>
-    ensures { result ≡ number_within 1 1000 word.now }
+    ensures { result ≡ number_within 1 MOST_TIMES word.now }
 {
-    match number(word, 1, 1_000) {
+    match number(word, 1, u64::from(MOST_TIMES)) {
         Some(n) => Some(n as u32),
         None => None,
     }
@@ -128,9 +129,9 @@ fn ask_of(
     count: &str,
     zone: &str,
 ) -> Result<Option<Ask>, NoMemory>
-    ensures ask { IfOk result (λ ask. ask ≡ ask_from (kind_said of_kind.now) text.now (offset_said ahead.now) (number_within 0 LAST_MOMENT from.now) (number_within 1 1000 count.now) zone.now) }
+    ensures ask { IfOk result (λ ask. ask ≡ ask_from (kind_said of_kind.now) text.now (offset_said ahead.now) (number_within 0 LAST_MOMENT from.now) (number_within 1 MOST_TIMES count.now) zone.now) }
     // Memory is taken for words in form alone.
-    ensures err { OnErr result (IsSome (ask_from (kind_said of_kind.now) text.now (offset_said ahead.now) (number_within 0 LAST_MOMENT from.now) (number_within 1 1000 count.now) zone.now)) }
+    ensures err { OnErr result (IsSome (ask_from (kind_said of_kind.now) text.now (offset_said ahead.now) (number_within 0 LAST_MOMENT from.now) (number_within 1 MOST_TIMES count.now) zone.now)) }
 {
     match (
         kind(of_kind),
@@ -214,8 +215,8 @@ pub(crate) fn settings_of(words: &[String]) -> Option<Settings>
         [word, ahead, fast, slow] => {
             if word.as_str() == "run" {
                 let offset = offset(ahead.as_bytes())?;
-                let fast = threads(fast.as_bytes(), 200)?;
-                let slow = threads(slow.as_bytes(), 100)?;
+                let fast = threads(fast.as_bytes(), MOST_FAST)?;
+                let slow = threads(slow.as_bytes(), MOST_SLOW)?;
                 Some(Settings { offset, fast, slow })
             } else {
                 None

@@ -1,5 +1,4 @@
-use Rattle.std.proofs.Common.{Some, sym, subst, ◌≡◌, ◌∙◌}
-use Rattle.cluster_history.specs.declared.settings.Settings.{Settings}
+use Rattle.std.proofs.Common.{sym, subst, ◌≡◌, ◌∙◌}
 use Rattle.line_program.specs.Script.{IsTaken}
 use Rattle.line_program.specs.Outcome.{BadAt, LargeAt}
 use Rattle.replay_program.specs.Script.{script}

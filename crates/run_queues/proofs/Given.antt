@@ -1,23 +1,25 @@
 -- The ready front given to a free runner.
-use Rattle.std.proofs.Common.{◌≡◌, ℕ, ◌+◌, Bool, true, false, not, ◌==◌, nat_lt, nat_eq, List, [], ◌∷◌, Option, None, Some, if◌then◌else◌, map, filter, find, drop, slice_get, refl, sym, ap, subst, ◌∙◌, arith}
+use Rattle.std.proofs.Common.{◌≡◌, ℕ, ◌-◌, Bool, true, false, not, ◌==◌, nat_lt, nat_eq, List, [], ◌∷◌, None, Some, if◌then◌else◌, map, filter, find, drop, refl, sym, ap, subst, ◌∙◌}
 use Rattle.std.proofs.lemmas.Bool.{false≢true}
 use Rattle.std.specs.List.{IsDistinct}
 use Rattle.std.specs.Map.{keys_of}
 use Rattle.std.specs.Option.{option_map}
 use Rattle.job_lane.specs.declared.runs.QueuedRun.{QueuedRun}
 use Rattle.job_lane.specs.declared.runs.RunnerRun.{RunnerRun}
-use Rattle.job_lane.specs.Runs.{without_first, put_before, started_run}
+use Rattle.job_lane.specs.Runs.{without_first, put_before}
 use Rattle.job_lane.specs.Lanes.{LaneView, runs, front_of, queue_polled, put_started}
 use Rattle.executor_history.specs.declared.records.Queued.{Queued}
 use Rattle.executor_history.specs.declared.records.Working.{Working}
-use Rattle.executor_history.specs.Runs.{is_ready, ready_front, is_on, run_on, working_run, put_working}
+use Rattle.executor_history.specs.Runs.{is_ready, ready_front, run_on, working_run, put_working}
 use Rattle.run_queues.specs.declared.front.Front.{Front}
 use Rattle.run_queues.specs.declared.serving.Serving.{Serving}
 use Rattle.run_queues.specs.Order.{lane_of, queued_in, queue_of, first_of, Hold, put_next}
 use Rattle.run_queues.specs.Order.{front_of as front_in}
 use Rattle.run_queues.specs.Serving.{Serve}
-use Rattle.run_queues.proofs.Holds.{FoundRun, found_run, first_ready, first_map, ready_same, queue_taken, took_front}
+use Rattle.run_queues.proofs.Holds.{found_run, first_ready, first_map, ready_same, queue_taken, took_front}
+use Rattle.run_queues.specs.Waiting.{times, one_of, Counts}
 use Rattle.run_queues.proofs.Served.{lane_runs, given}
+use Rattle.run_queues.proofs.Counted.{took-counts}
 
 -- a job is free where no run in its lane runs
 abbrev pub free : List (ℕ × LaneView) → ℕ → Bool
@@ -88,6 +90,14 @@ pub hold_given : (es es' : List (ℕ × LaneView)) (fs fs' : List Front) (ss : L
 hold_given es es' fs fs' ss ws qs last f hold h is once new fronts =
     let P : List Queued → Type 0 = λ ys. Hold es' fs' ys last in
     subst P (ready_is es ss ws qs h).1 (took_front (free es) es es' fs fs' qs last f hold is once new fronts)
+
+pub counts_given : (es : List (ℕ × LaneView)) (fs : List Front) (ss : List Serving) (ws : List Working) (qs : List Queued) (last : ℕ) (f : Front) (logs logs' : List (ℕ × ℕ)) → Hold es fs qs last → Serve es ss ws → find (λ (g : Front). free es g.job) fs ≡ Some f
+    → Counts logs qs → IsDistinct nat_eq (keys_of logs') → ((log : ℕ) → times log logs' ≡ times log logs - one_of log (first_of (lane_of f.job es).queue)) → Counts logs' (without_first (is_ready ws) qs)
+counts_given es fs ss ws qs last f logs logs' hold h is counts once new =
+    let x = found_run (free es) es fs qs last f hold is in
+    let P : List Queued → Type 0 = λ ys. Counts logs' ys in
+    subst P (ready_is es ss ws qs h).1
+    (took-counts (λ (q : Queued). free es q.job) x.run f.job (lane_of f.job es).queue logs logs' qs counts x.found (first_ready (free es) es fs qs last f hold is ∙ x.found) once new)
 
 -- the ready front is the first run in the lane of its job
 pub front_is : (es : List (ℕ × LaneView)) (fs : List Front) (ss : List Serving) (ws : List Working) (qs : List Queued) (last : ℕ) (f : Front) → Hold es fs qs last → Serve es ss ws → find (λ (g : Front). free es g.job) fs ≡ Some f → ready_front qs ws ≡ option_map (queued_in f.job) (first_of (lane_of f.job es).queue)

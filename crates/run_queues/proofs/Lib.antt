@@ -4,3 +4,4 @@ pub mod Fronts
 pub mod Holds
 pub mod Served
 pub mod Given
+pub mod Counted

@@ -1,10 +1,9 @@
 -- The runs of all queues, merged by their numbers, are the one list that the queues hold.
-use Rattle.std.proofs.Common.{◌≡◌, ℕ, ◌<◌, ◌≤◌, Bool, true, false, not, ◌==◌, nat_eq, nat_lt, ◌||◌, List, [], ◌∷◌, ◌++◌, map, filter, refl, sym, ap, subst, ◌∙◌, arith}
+use Rattle.std.proofs.Common.{◌≡◌, ℕ, ◌<◌, ◌≤◌, Bool, true, false, not, ◌==◌, nat_eq, nat_lt, List, [], ◌∷◌, ◌++◌, map, filter, refl, sym, ap, subst, ◌∙◌, arith}
 use Rattle.std.proofs.lemmas.Bool.Decides.{nat_tests}
-use Rattle.std.specs.List.{IsDistinct, AllByRecursion, list_any}
+use Rattle.std.specs.List.{IsDistinct, AllByRecursion}
 use Rattle.std.specs.Map.{keys_of}
 use Rattle.job_lane.specs.Runs.{without_first}
-use Rattle.job_lane.specs.declared.runs.QueuedRun.{QueuedRun}
 use Rattle.job_lane.specs.Lanes.{LaneView}
 use Rattle.executor_history.specs.declared.records.Queued.{Queued}
 use Rattle.executor_history.specs.Runs.{is_queued_of}
@@ -115,35 +114,3 @@ merged (e ∷ es) qs high once h are =
     let rest : in_order es ≡ filter (λ x. not (is_queued_of e.0 x)) qs =
     merged es (filter (λ x. not (is_queued_of e.0 x)) qs) high once.1 (rises-filter _ 0 high qs h) (λ job. rest_by job e es qs (job == e.0) refl once.0 (are job)) in
     rw (rest, ← head) (parts (is_queued_of e.0) 0 high qs h)
-
--- ---- a test of the runs
-put_any : (p : Queued → Bool) (q : Queued) (qs : List Queued) → list_any p (put_run q qs) ≡ (p q || list_any p qs)
-put_any p q [] = refl
-put_any p q (x ∷ qs) = by_test (nat_lt q.run.number x.run.number) refl (put_any p q qs) where
-  swap : (a b c : Bool) → (a || (b || c)) ≡ (b || (a || c))
-  swap true true c = refl
-  swap true false c = refl
-  swap false true c = refl
-  swap false false c = refl
-
-  by_test : (b : Bool) → nat_lt q.run.number x.run.number ≡ b → list_any p (put_run q qs) ≡ (p q || list_any p qs) → list_any p (put_run q (x ∷ qs)) ≡ (p q || list_any p (x ∷ qs))
-  by_test true e h = rw e refl
-  by_test false e h = rw e (ap (λ (b : Bool). p x || b) h ∙ swap (p x) (p q) (list_any p qs))
-
-runs_any : (p : Queued → Bool) (xs qs : List Queued) → list_any p (put_runs xs qs) ≡ (list_any p xs || list_any p qs)
-runs_any p [] qs = refl
-runs_any p (x ∷ xs) qs = put_any p x (put_runs xs qs) ∙ (ap (λ (b : Bool). p x || b) (runs_any p xs qs) ∙ or_assoc (p x) (list_any p xs) (list_any p qs)) where
-  or_assoc : (a b c : Bool) → (a || (b || c)) ≡ ((a || b) || c)
-  or_assoc true b c = refl
-  or_assoc false b c = refl
-
-any_map : {X Y : Type 0} (p : Y → Bool) (f : X → Y) (xs : List X) → list_any p (map f xs) ≡ list_any (λ x. p (f x)) xs
-any_map p f [] = refl
-any_map p f (x ∷ xs) = ap (λ (b : Bool). p (f x) || b) (any_map p f xs)
-
--- some run of all queues passes where some queue has one
-pub any-order : (p : Queued → Bool) (es : List (ℕ × LaneView)) → list_any p (in_order es) ≡ list_any (λ (e : ℕ × LaneView). list_any (λ (run : QueuedRun). p (queued_in e.0 run)) e.1.queue) es
-any-order p [] = refl
-any-order p (e ∷ es) =
-    runs_any p (map (queued_in e.0) e.1.queue) (in_order es)
-    ∙ (ap (λ (b : Bool). b || list_any p (in_order es)) (any_map p (queued_in e.0) e.1.queue) ∙ ap (λ (b : Bool). list_any (λ (run : QueuedRun). p (queued_in e.0 run)) e.1.queue || b) (any-order p es))

@@ -1,5 +1,5 @@
 -- Lanes and what runners serve hold the runs on runners that each change leaves.
-use Rattle.std.proofs.Common.{◌≡◌, ℕ, ◌+◌, ◌<◌, ◌≤◌, Bool, true, false, not, ◌==◌, ◌&&◌, ◌||◌, nat_lt, nat_eq, List, [], ◌∷◌, ◌++◌, Option, None, Some, if◌then◌else◌, map, filter, find, take, length, get_or, refl, sym, ap, subst, ◌∙◌, arith, zero, suc, add-one}
+use Rattle.std.proofs.Common.{◌≡◌, ℕ, ◌+◌, ◌<◌, Bool, true, false, not, ◌==◌, ◌||◌, nat_lt, List, [], ◌∷◌, Option, None, Some, if◌then◌else◌, map, filter, find, take, length, get_or, refl, sym, ap, subst, ◌∙◌, arith, zero, suc, add-one}
 use Rattle.std.proofs.lemmas.Bool.Decides.{nat_tests}
 use Rattle.std.specs.List.{list_any, AllByRecursion as Each}
 use Rattle.std.specs.Option.{option_map}
@@ -7,9 +7,9 @@ use Rattle.job_lane.specs.declared.runs.RunnerRun.{RunnerRun}
 use Rattle.job_lane.specs.Runs.{without_first, put_before, is_running, is_overdue, ended_run, expired_run}
 use Rattle.job_lane.specs.Lanes.{LaneView, runs}
 use Rattle.executor_history.specs.declared.records.Working.{Working}
-use Rattle.executor_history.specs.Runs.{is_on, is_running_of, job_runs, ended_of, expired_of}
+use Rattle.executor_history.specs.Runs.{is_on, job_runs, ended_of, expired_of}
 use Rattle.rising_rows.specs.Rising.{RisesFrom}
-use Rattle.rising_rows.proofs.RowLemmas.{rises-filter, rises-lower, rises-map}
+use Rattle.rising_rows.proofs.RowLemmas.{rises-filter, rises-lower}
 use Rattle.run_queues.specs.declared.serving.Serving.{Serving}
 use Rattle.run_queues.specs.Order.{lane_of}
 use Rattle.run_queues.specs.Serving.{served_run, working_as, put_served, by_runner, serving_of, is_working_of, runner_key, Serve}

@@ -99,7 +99,8 @@ room_in None = 0
 room_in (Some room) = room
 
 -- the runs of an executor: those that wait in order of acceptance, those on runners in order of the runners, the number of
--- the last run that was accepted, and how many more runs of each job, jobs that wait and runs on runners go in without memory
+-- the last run that was accepted, and how many more runs of each job, jobs that wait, runs on runners and logs that wait go
+-- in without memory
 pub record QueuesView : Type 0 where
   pub runs : List Queued
   pub on_runners : List Working
@@ -107,8 +108,10 @@ pub record QueuesView : Type 0 where
   pub rooms : List (ℕ × ℕ)
   pub fronts : ℕ
   pub runners : ℕ
+  pub logs : ℕ
 
 -- there is room for a run of this job
 pub record HasRoom (job : ℕ) (view : QueuesView) : Type 0 where
   pub queue : 1 ≤ room_in (lookup (nat_eq job) view.rooms)
   pub front : 1 ≤ view.fronts
+  pub log : 1 ≤ view.logs

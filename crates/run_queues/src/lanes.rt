@@ -160,20 +160,6 @@ pub(crate) fn push(lanes: &mut IndexMap<u32, Lane>, job: JobId, new: QueuedRun)
     }
 }
 
-/// Whether a run of the log waits in this lane.
-fn has_log(lane: &Lane, log: LogId) -> bool
-    ensures { result ≡ list_any (λ run. log == run.log) lane.now.queue }
-{
-    lane.queue().iter().any(|run| log == run.log)
-}
-
-/// Whether a run of the log waits.
-pub(crate) fn some_log(lanes: &IndexMap<u32, Lane>, log: LogId) -> bool
-    ensures { result ≡ list_any (λ e. list_any (λ run. log == run.log) e.1.queue) lanes.now.entries }
-{
-    lanes.iter().any(|(_, lane)| has_log(lane, log))
-}
-
 /// Whether a lane has no run at all.
 fn is_idle(lanes: &IndexMap<u32, Lane>, job: JobId) -> bool
     ensures queue { IsTrue result → (lane_of job lanes.now.entries).queue ≡ [] }

@@ -7,6 +7,7 @@ pub mod lanes;
 pub mod queues;
 pub mod ready;
 pub mod serving;
+pub mod waiting;
 
 pub use front::Front;
 pub use queues::Queues;

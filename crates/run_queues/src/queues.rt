@@ -10,7 +10,7 @@ ghost use Rattle.run_queues.specs.Serving.{served_run, working_as, is_of_log, by
 
 use super::front::Front;
 use super::serving::{Serving, leave, serve, served};
-use super::{lanes, ready};
+use super::{lanes, ready, waiting};
 use executor_history::{Queued, Working};
 use indexmap::IndexMap;
 use job_lane::{Lane, QueuedRun};
@@ -20,19 +20,22 @@ use std::collections::VecDeque;
 use std::marker::Model;
 
 /// The runs of an executor: a lane for each job, found by the job's number, the first run of each queue in order of
-/// acceptance, and the job that each runner serves.
+/// acceptance, the job that each runner serves, and how many runs of each log wait.
 #[derive(Drop)]
 pub struct Queues {
     last: u64,
     lanes: IndexMap<u32, Lane>,
     fronts: Vec<Front>,
     serving: Vec<Serving>,
+    logs: IndexMap<u64, u64>,
 }
 
 impl Model for Queues {
     ghost use Rattle.std.specs.Prelude.{◌-◌, ◌≤◌, map, vec_len, vec_capacity};
     ghost use Rattle.run_queues.specs.Order.{in_order, Hold, QueuesView};
     ghost use Rattle.run_queues.specs.Serving.{by_runner, Serve};
+    ghost use Rattle.run_queues.specs.Waiting.{Counts};
+    ghost use Rattle.indexmap.specs.IndexMap.{spare};
 
     ghost Value = { QueuesView };
 
@@ -43,9 +46,10 @@ impl Model for Queues {
       rooms = map (λ e. (e.0, e.1.room)) q.lanes.entries;
       fronts = vec_capacity q.fronts - vec_len q.fronts;
       runners = vec_capacity q.serving - vec_len q.serving;
+      logs = spare q.logs;
     } };
 
-    ghost invariant = { λ q. Hold q.lanes.entries q.fronts.items (in_order q.lanes.entries) q.last × Serve q.lanes.entries q.serving.items (by_runner q.lanes.entries q.serving.items) × (vec_len q.fronts ≤ vec_capacity q.fronts) };
+    ghost invariant = { λ q. Hold q.lanes.entries q.fronts.items (in_order q.lanes.entries) q.last × Serve q.lanes.entries q.serving.items (by_runner q.lanes.entries q.serving.items) × (vec_len q.fronts ≤ vec_capacity q.fronts) × Counts q.logs.entries (in_order q.lanes.entries) };
 }
 
 impl Queues {
@@ -60,6 +64,7 @@ impl Queues {
             lanes: IndexMap::new(alloc),
             fronts: Vec::new(alloc),
             serving: Vec::new(alloc),
+            logs: IndexMap::new(alloc),
         }
     }
 
@@ -101,11 +106,11 @@ impl Queues {
         }
     }
 
-    /// Whether a run of the log waits. It reads the queues until it finds one.
+    /// Whether a run of the log waits.
     pub fn has_log(&self, log: LogId) -> bool
         ensures { result ≡ is_in_queue log self.now.runs }
     {
-        lanes::some_log(&self.lanes, log)
+        waiting::some_waits(&self.logs, log)
     }
 
     /// The run that a runner has.
@@ -153,6 +158,7 @@ impl Queues {
         ensures room { OnOk result (HasRoom job self.new) }
     {
         self.fronts.reserve(1)?;
+        self.logs.reserve(1)?;
         lanes::reserve(alloc, &mut self.lanes, job)
     }
 
@@ -177,6 +183,7 @@ impl Queues {
     {
         let Queued { job, run } = new;
         let number = run.number;
+        waiting::add(&mut self.logs, run.log, number);
         let waits = lanes::waits(&self.lanes, job);
         self.last = number;
         ready::add(&mut self.fronts, Front { number, job }, waits);
@@ -191,6 +198,7 @@ impl Queues {
         ensures room { (j : ℕ) → HasRoom j self.old → HasRoom j self.new }
     {
         ready::take_first(&mut self.fronts, lanes::first_front(&self.lanes, job));
+        waiting::take_all(&mut self.logs, &self.lanes, job);
         lanes::kill(&mut self.lanes, job);
     }
 
@@ -220,6 +228,7 @@ impl Queues {
                     number: front.number,
                 };
                 serve(&mut self.serving, new);
+                waiting::take_first(&mut self.logs, &self.lanes, front.job);
                 lanes::poll(&mut self.lanes, front.job, runner, at);
                 let next = lanes::first_front(&self.lanes, front.job);
                 ready::replace(&mut self.fronts, front.number, next);

@@ -1,5 +1,4 @@
-use Rattle.std.proofs.Common.{◌≡◌, ◌<◌, ◌≤◌, ℕ, nat_le, Bool, true, false, List, [], ◌∷◌, length, refl, sym, ap, ◌∙◌, arith}
-use Rattle.std.proofs.lemmas.Bool.Decides.{nat_tests}
+use Rattle.std.proofs.Common.{◌≡◌, ◌≤◌, ℕ, nat_le, Bool, true, false, List, [], ◌∷◌, length, refl, sym, arith}
 use Rattle.std.specs.List.{position_or_len}
 use Rattle.executor_history.specs.Past.{Known}
 use Rattle.executor_core.specs.declared.known_row.KnownRow.{KnownRow}

@@ -1,6 +1,5 @@
-use Rattle.std.proofs.Common.{◌≡◌, ◌==◌, Bool, length, map, if◌then◌else◌, sym, ap, ◌∙◌, add-one}
+use Rattle.std.proofs.Common.{map, ◌∙◌}
 use Rattle.job_lane.specs.Runs.{expired_run}
-use Rattle.run_queues.specs.declared.serving.Serving.{Serving}
 use Rattle.run_queues.specs.Order.{lane_of}
 use Rattle.run_queues.proofs.Served.{more_served, own_job}
 use Rattle.run_queues.proofs.lanes.expire_served.Goals as goal

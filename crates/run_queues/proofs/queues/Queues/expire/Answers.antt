@@ -4,6 +4,7 @@ use Rattle.run_queues.specs.Order.{Hold, in_order}
 use Rattle.run_queues.specs.Serving.{by_runner, Serve}
 use Rattle.run_queues.proofs.Holds.{same, queue_same, seen, as_seen}
 use Rattle.run_queues.proofs.Served.{all_expired, shown, as_shown}
+use Rattle.run_queues.proofs.Counted.{counts-seen}
 use Rattle.run_queues.proofs.queues.Queues.expire.Goals as goal
 
 hold : (c : goal.After-expire_served) → Hold c.expire_served.new.lanes.entries c.self.inside.fronts.items (in_order c.self.inside.lanes.entries) c.self.inside.last
@@ -23,7 +24,7 @@ invariant_of-self c =
     let es = c.self.inside.lanes.entries in
     let es' = c.expire_served.new.lanes.entries in
     let ss = c.self.inside.serving.items in
-    (as_seen es' c.self.inside.fronts.items (in_order es) c.self.inside.last (hold c), as_shown es' ss (map (expired_of c.args.at) (by_runner es ss)) (serve c), c.self.invariant.2)
+    (as_seen es' c.self.inside.fronts.items (in_order es) c.self.inside.last (hold c), as_shown es' ss (map (expired_of c.args.at) (by_runner es ss)) (serve c), c.self.invariant.2, counts-seen es' c.self.inside.fronts.items (in_order es) c.self.inside.last c.self.inside.logs.entries (hold c) c.self.invariant.3)
 
 pub returns-clause-runs : goal.returns-clause-runs
 returns-clause-runs c =

@@ -2,6 +2,7 @@ use Rattle.run_queues.specs.Order.{in_order, Hold}
 use Rattle.run_queues.specs.Serving.{by_runner, Serve}
 use Rattle.run_queues.proofs.Holds.{same, queue_same, seen, as_seen}
 use Rattle.run_queues.proofs.Served.{kept, shown, as_shown}
+use Rattle.run_queues.proofs.Counted.{counts-seen}
 use Rattle.run_queues.proofs.queues.Queues.forget.Goals as goal
 
 hold : (c : goal.After-forget) → Hold c.forget.new.lanes.entries c.self.inside.fronts.items (in_order c.self.inside.lanes.entries) c.self.inside.last
@@ -21,7 +22,7 @@ invariant_of-self c =
     let es = c.self.inside.lanes.entries in
     let es' = c.forget.new.lanes.entries in
     let ss = c.self.inside.serving.items in
-    (as_seen es' c.self.inside.fronts.items (in_order es) c.self.inside.last (hold c), as_shown es' ss (by_runner es ss) (serve c), c.self.invariant.2)
+    (as_seen es' c.self.inside.fronts.items (in_order es) c.self.inside.last (hold c), as_shown es' ss (by_runner es ss) (serve c), c.self.invariant.2, counts-seen es' c.self.inside.fronts.items (in_order es) c.self.inside.last c.self.inside.logs.entries (hold c) c.self.invariant.3)
 
 pub returns-clause-runs : goal.returns-clause-runs
 returns-clause-runs c =

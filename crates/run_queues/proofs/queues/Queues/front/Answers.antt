@@ -1,6 +1,5 @@
 use Rattle.std.proofs.Common.{◌≡◌, None, Some, find, sym, ap, ◌∙◌}
 use Rattle.std.specs.Option.{option_map}
-use Rattle.executor_history.specs.Runs.{ready_front}
 use Rattle.run_queues.specs.declared.front.Front.{Front}
 use Rattle.run_queues.specs.Order.{in_order, queued_in}
 use Rattle.run_queues.specs.Serving.{by_runner}

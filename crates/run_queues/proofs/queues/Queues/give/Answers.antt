@@ -1,12 +1,14 @@
-use Rattle.std.proofs.Common.{◌≡◌, ◌<◌, ◌≤◌, ◌==◌, not, None, Some, find, filter, refl, sym, ap, subst, ◌∙◌, arith}
+use Rattle.std.proofs.Common.{◌≡◌, ◌==◌, not, None, Some, find, filter, refl, sym, ap, subst, ◌∙◌, arith}
 use Rattle.job_lane.specs.Runs.{without_first}
 use Rattle.executor_history.specs.Runs.{is_ready, ready_front, run_on, put_working}
 use Rattle.run_queues.specs.declared.front.Front.{Front}
-use Rattle.run_queues.specs.Order.{Hold, in_order, lane_of, put_next, QueuesView, IsNew}
+use Rattle.run_queues.specs.Order.{Hold, in_order, put_next, QueuesView}
 use Rattle.run_queues.specs.Serving.{by_runner, Serve}
+use Rattle.run_queues.specs.Waiting.{Counts}
 use Rattle.run_queues.proofs.Holds.{none_ready, none_taken, next_new, fewer, rises, lane_front, seen, as_seen}
 use Rattle.run_queues.proofs.Served.{serving_rise, not_served, own_none, shown, as_shown}
-use Rattle.run_queues.proofs.Given.{free, ready_is, queues_polled, hold_given, serve_given}
+use Rattle.run_queues.proofs.Given.{free, ready_is, queues_polled, hold_given, serve_given, counts_given}
+use Rattle.run_queues.proofs.Counted.{counts-seen}
 use Rattle.run_queues.proofs.queues.Queues.give.Goals as goal
 use Rattle.run_queues.proofs.queues.Queues.give.Goals.{After-replace}
 
@@ -69,6 +71,15 @@ serve c =
     serve_given es c.poll.new.lanes.entries fs ss c.serve.new.serving.items (by_runner es ss) (in_order es) c.self.inside.last c.in-Some.front c.args.runner c.args.at c.self.invariant.0 c.self.invariant.1 found
     (subst P (sym c.self.view_is) c.requires.free) c.poll.ensures.on_runners c.serve.ensures.items
 
+counts : (c : After-replace) → Counts c.take_first.new.logs.entries (without_first (is_ready (by_runner c.self.inside.lanes.entries c.self.inside.serving.items)) (in_order c.self.inside.lanes.entries))
+counts c =
+    let es = c.self.inside.lanes.entries in
+    let fs = c.self.inside.fronts.items in
+    let ss = c.self.inside.serving.items in
+    let found : find (λ (g : Front). free es g.job) fs ≡ Some c.in-Some.front = rw c.as_slice.ensures.value at (sym c.ready_front.ensures ∙ c.in-Some.is) in
+    counts_given es fs ss (by_runner es ss) (in_order es) c.self.inside.last c.in-Some.front c.self.inside.logs.entries c.take_first.new.logs.entries c.self.invariant.0 c.self.invariant.1 found c.self.invariant.3
+    c.take_first.ensures.once c.take_first.ensures.times
+
 pub invariant_of-self : goal.invariant_of-self
 invariant_of-self c =
     let es = c.self.inside.lanes.entries in
@@ -77,6 +88,7 @@ invariant_of-self c =
       as_seen c.poll.new.lanes.entries c.replace.new.fronts.items (without_first (is_ready ws) (in_order es)) c.self.inside.last (hold c),
       as_shown c.poll.new.lanes.entries c.serve.new.serving.items (put_working c.args.runner c.args.at (ready_front (in_order es) ws) ws) (serve c),
       c.replace.ensures.room,
+      counts-seen c.poll.new.lanes.entries c.replace.new.fronts.items (without_first (is_ready ws) (in_order es)) c.self.inside.last c.take_first.new.logs.entries (hold c) (counts c),
     )
 
 pub returns-in-None-clause-runs : goal.returns-in-None-clause-runs

@@ -1,4 +1,4 @@
-use Rattle.std.proofs.Common.{◌≡◌, ℕ, ◌==◌, ◌||◌, Bool, true, false, Option, None, Some, [], refl, sym, ◌∙◌}
+use Rattle.std.proofs.Common.{◌≡◌, ℕ, ◌==◌, ◌||◌, Bool, true, false, Option, None, Some, [], refl, ◌∙◌}
 use Rattle.std.specs.List.{list_any}
 use Rattle.job_lane.specs.declared.runs.RunnerRun.{RunnerRun}
 use Rattle.executor_history.specs.declared.records.Working.{Working}

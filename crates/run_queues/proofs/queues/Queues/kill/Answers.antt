@@ -1,10 +1,12 @@
 use Rattle.std.proofs.Common.{not, map, filter, sym, subst, ◌∙◌, ap, arith}
 use Rattle.executor_history.specs.declared.records.Queued.{Queued}
 use Rattle.executor_history.specs.Runs.{is_queued_of, ended_of}
-use Rattle.run_queues.specs.Order.{Hold, in_order, without_front, QueuesView, HasRoom}
+use Rattle.run_queues.specs.Order.{Hold, in_order, lane_of, without_front, QueuesView, HasRoom}
 use Rattle.run_queues.specs.Serving.{by_runner, Serve}
+use Rattle.run_queues.specs.Waiting.{Counts}
 use Rattle.run_queues.proofs.Holds.{dropped, rises, seen, as_seen, queue_ended, lane_front, lane_room}
 use Rattle.run_queues.proofs.Served.{ended, shown, as_shown}
+use Rattle.run_queues.proofs.Counted.{dropped-counts, counts-seen}
 use Rattle.run_queues.proofs.queues.Queues.kill.Goals as goal
 
 pub take_first-requires : goal.take_first-requires
@@ -24,6 +26,11 @@ serve c =
     let ss = c.self.inside.serving.items in
     ended c.args.job es c.kill.new.lanes.entries ss (by_runner es ss) c.self.invariant.1 c.kill.ensures.on_runners
 
+counts : (c : goal.After-kill) → Counts c.take_all.new.logs.entries (filter (λ (q : Queued). not (is_queued_of c.args.job q)) (in_order c.self.inside.lanes.entries))
+counts c =
+    let es = c.self.inside.lanes.entries in
+    dropped-counts c.args.job (lane_of c.args.job es).queue c.self.inside.logs.entries c.take_all.new.logs.entries (in_order es) c.self.invariant.3 (c.self.invariant.0.queues_are c.args.job) c.take_all.ensures.once c.take_all.ensures.times
+
 pub invariant_of-self : goal.invariant_of-self
 invariant_of-self c =
     let es = c.self.inside.lanes.entries in
@@ -32,6 +39,7 @@ invariant_of-self c =
       as_seen es' c.take_first.new.fronts.items (filter (λ (q : Queued). not (is_queued_of c.args.job q)) (in_order es)) c.self.inside.last (hold c),
       as_shown es' ss (map (ended_of c.args.job) (by_runner es ss)) (serve c),
       omega (arith, c.self.invariant.2, c.take_first.ensures.len, c.take_first.ensures.capacity),
+      counts-seen es' c.take_first.new.fronts.items (filter (λ (q : Queued). not (is_queued_of c.args.job q)) (in_order es)) c.self.inside.last c.take_all.new.logs.entries (hold c) (counts c),
     )
 
 pub returns-clause-runs : goal.returns-clause-runs
@@ -52,4 +60,5 @@ returns-clause-room c j had =
     record {
       queue = omega (arith, here.queue, lane_room j c.self.inside.lanes.entries, lane_room j c.kill.new.lanes.entries, c.kill.ensures.room j);
       front = omega (arith, here.front, c.take_first.ensures.len, c.take_first.ensures.capacity);
+      log = omega (arith, here.log, c.take_all.ensures.room);
     }

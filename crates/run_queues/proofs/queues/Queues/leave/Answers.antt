@@ -1,11 +1,12 @@
-use Rattle.std.proofs.Common.{◌≡◌, ◌==◌, None, Some, find, sym, ap, ◌∙◌}
+use Rattle.std.proofs.Common.{◌≡◌, ◌==◌, None, Some, find, sym, ◌∙◌}
 use Rattle.job_lane.specs.Runs.{without_first}
 use Rattle.executor_history.specs.Runs.{is_on}
 use Rattle.run_queues.specs.declared.serving.Serving.{Serving}
 use Rattle.run_queues.specs.Order.{Hold, in_order}
 use Rattle.run_queues.specs.Serving.{by_runner, Serve}
 use Rattle.run_queues.proofs.Holds.{same, queue_same, seen, as_seen}
-use Rattle.run_queues.proofs.Served.{serving_rise, on_none, not_left, left_served, kept, shown, as_shown}
+use Rattle.run_queues.proofs.Served.{serving_rise, on_none, not_left, left_served, shown, as_shown}
+use Rattle.run_queues.proofs.Counted.{counts-seen}
 use Rattle.run_queues.proofs.queues.Queues.leave.Goals as goal
 use Rattle.run_queues.proofs.queues.Queues.leave.Goals.{After-leave}
 
@@ -39,7 +40,7 @@ invariant_of-self c =
     let es = c.self.inside.lanes.entries in
     let es' = c.forget.new.lanes.entries in
     let ss = c.self.inside.serving.items in
-    (as_seen es' c.self.inside.fronts.items (in_order es) c.self.inside.last (hold c), as_shown es' c.leave.new.serving.items (without_first (is_on c.args.runner) (by_runner es ss)) (serve c), c.self.invariant.2)
+    (as_seen es' c.self.inside.fronts.items (in_order es) c.self.inside.last (hold c), as_shown es' c.leave.new.serving.items (without_first (is_on c.args.runner) (by_runner es ss)) (serve c), c.self.invariant.2, counts-seen es' c.self.inside.fronts.items (in_order es) c.self.inside.last c.self.inside.logs.entries (hold c) c.self.invariant.3)
 
 pub returns-in-None-clause-on_runners : goal.returns-in-None-clause-on_runners
 returns-in-None-clause-on_runners c =

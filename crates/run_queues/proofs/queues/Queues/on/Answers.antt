@@ -1,4 +1,4 @@
-use Rattle.std.proofs.Common.{◌≡◌, ◌==◌, None, Some, find, sym, ap, ◌∙◌}
+use Rattle.std.proofs.Common.{◌≡◌, ◌==◌, None, Some, find, sym, ◌∙◌}
 use Rattle.run_queues.specs.declared.serving.Serving.{Serving}
 use Rattle.run_queues.specs.Serving.{by_runner}
 use Rattle.run_queues.proofs.Served.{serving_rise, on_some, on_none}

@@ -21,7 +21,7 @@ use Rattle.line_grammar.specs.Texts.{escape, spelled, hex_digit}
 use Rattle.line_grammar.specs.Writing.{quoted, optional_text, spaced_text, spaced_number, counted_texts, counted_numbers}
 use Rattle.script_text.specs.Lines.{IsLine}
 use Rattle.script_text.specs.Spelling.{event_words, spec_text, trigger_text, work_text, zone_text}
-use Rattle.script_text.proofs.SpellingLaws.{found}
+use Rattle.script_text.specs.Laws.{EachEventHasOneLine}
 use Rattle.line_program.specs.Cuts.{is_open, IsLineEnd}
 use Rattle.line_program.proofs.CutLemmas.{open_append}
 use Rattle.line_program.proofs.LimitLemmas.{either_way}
@@ -175,5 +175,5 @@ words_open (ReadLog l) = decimal_open l
 words_open Reopen = refl
 
 -- a line of an event has one end of a line, at its end
-pub line_end : (e : ClusterEvent) (line : List ℕ) → IsLine e line → IsLineEnd line
-line_end e line says = record { front = event_words e; is = (found e line says).0; one = words_open e }
+pub line_end : EachEventHasOneLine → (e : ClusterEvent) (line : List ℕ) → IsLine e line → IsLineEnd line
+line_end law e line says = record { front = event_words e; is = law.only e line says; one = words_open e }

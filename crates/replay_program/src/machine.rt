@@ -2,6 +2,7 @@
 ghost use Rattle.std.specs.Prelude.{◌≡◌, [], ◌++◌, IfOk, OnOk};
 ghost use Rattle.replay_program.specs.Script.{script_play};
 
+use crate::laws::law_lines_end;
 use cluster_core::Cluster;
 use cluster_history::Settings;
 use job_events::{ClusterEvent, Report};
@@ -37,6 +38,7 @@ impl LineMachine for Machine {
     ghost play = { script_play };
 
     fn read(&self, alloc: Global, line: &[u8]) -> Result<ClusterEvent, Unread> {
+        law_lines_end();
         match read_line(alloc, line) {
             Ok(event) => Ok(event),
             Err(LineError::Bad(fault)) => Err(Unread::Bad(fault.column)),

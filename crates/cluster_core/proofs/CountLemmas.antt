@@ -1,10 +1,9 @@
 -- What is counted over the admins.
-use Rattle.std.proofs.Common.{◌≡◌, ℕ, suc, ◌*◌, ◌≤◌, List, [], ◌∷◌, map, length, length-append, refl, sym, ap, ◌∙◌, arith}
+use Rattle.std.proofs.Common.{◌≡◌, ℕ, suc, ◌*◌, ◌≤◌, List, [], ◌∷◌, map, length, length-append, sym, ap, ◌∙◌, arith}
 use Rattle.std.specs.Prelude.{sum, sum_by, count_by}
 use Rattle.std.proofs.lemmas.List.Sums.{sum_by-cons, sum-map}
 use Rattle.job_events.specs.declared.report.Report.{Report}
-use Rattle.time_ring.specs.Ring.{Ring, ticket_count}
-use Rattle.trigger_pool.specs.Pool.{PoolState, Queues}
+use Rattle.time_ring.specs.Ring.{ticket_count}
 use Rattle.cluster_history.specs.History.{History}
 use Rattle.cluster_history.specs.Jobs.{jobs_of}
 use Rattle.cluster_history.specs.Nodes.{admins}
@@ -13,8 +12,10 @@ use Rattle.cluster_history.specs.Tickets.{waiting, waiting_at}
 use Rattle.cluster_history.specs.Logs.{logs_of}
 use Rattle.cluster_history.specs.Settling.{is_settled, is_failed}
 use Rattle.cluster_history.specs.Runs.{waiting_in, queued_in, counted}
-use Rattle.cluster_plan.specs.Kept.{pools_at, logs_in, IsWithinLimits}
-use Rattle.cluster_plan.specs.Stands.{ring_of, queues_of}
+use Rattle.cluster_plan.specs.declared.node.Node.{Node}
+use Rattle.cluster_plan.specs.Nodes.{NodeKept, node_in, node_at}
+use Rattle.cluster_plan.specs.Kept.{logs_in, IsWithinLimits}
+use Rattle.cluster_plan.specs.Stands.{ring_of, node_of}
 use Rattle.cluster_plan.proofs.AdminLemmas.{map-same, map-mapped}
 use Rattle.cluster_plan.proofs.RingLemmas.{ring-count}
 
@@ -23,26 +24,27 @@ sum-mapped : {X Y : Type 0} (f : Y → ℕ) (g : X → Y) (xs : List X) → sum_
 sum-mapped {X} {Y} f g xs = sym (sum-map (λ (x : X). f (g x)) xs) ∙ sym (ap sum (map-mapped f g xs))
 
 -- the tickets in all rings
-pub waiting-counted : (rings : List Ring) (h : History) → map (λ (r : Ring). r.slots) rings ≡ map (ring_of h) admins → sum_by (λ (r : Ring). ticket_count r.slots) rings ≡ waiting_in h
-waiting-counted rings h stands =
-    sum-mapped ticket_count (λ (r : Ring). r.slots) rings ∙ ap (λ slots. sum (map ticket_count slots)) stands
-    ∙ ap sum (map-mapped ticket_count (ring_of h) admins ∙ map-same (λ a. ticket_count (ring_of h a)) (waiting_at h) (λ a. ring-count (waiting h) a) admins)
+pub waiting-counted : (nodes : List Node) (h : History) → map node_in nodes ≡ map (node_of h) admins → sum_by (λ (one : Node). ticket_count one.ring.slots) nodes ≡ waiting_in h
+waiting-counted nodes h stands =
+    let count : NodeKept → ℕ = λ one. ticket_count one.ring in
+    sum-mapped count node_in nodes ∙ ap (λ kept. sum (map count kept)) stands
+    ∙ ap sum (map-mapped count (node_of h) admins ∙ map-same (λ a. ticket_count (ring_of h a)) (waiting_at h) (λ a. ring-count (waiting h) a) admins)
 
 -- the logs in all pools
-pub queued-counted : (pools : List PoolState) (h : History) → map (λ (p : PoolState). p.kept) pools ≡ map (queues_of h) admins → sum_by (λ (p : PoolState). length (logs_in p.kept)) pools ≡ queued_in h
-queued-counted pools h stands =
-    sum-mapped (λ (q : Queues). length (logs_in q)) (λ (p : PoolState). p.kept) pools ∙ ap (λ queues. sum (map (λ (q : Queues). length (logs_in q)) queues)) stands
-    ∙ ap sum (map-mapped (λ (q : Queues). length (logs_in q)) (queues_of h) admins)
+pub queued-counted : (nodes : List Node) (h : History) → map node_in nodes ≡ map (node_of h) admins → sum_by (λ (one : Node). length (logs_in one.pools.kept)) nodes ≡ queued_in h
+queued-counted nodes h stands =
+    let count : NodeKept → ℕ = λ one. length (logs_in one.pools) in
+    sum-mapped count node_in nodes ∙ ap (λ kept. sum (map count kept)) stands ∙ ap sum (map-mapped count (node_of h) admins)
 
 -- no pool has more logs than it takes, so that all have few
-pub queued-few : (pools : List PoolState) → ((a : ℕ) → IsWithinLimits (pools_at (map (λ (p : PoolState). p.kept) pools) a)) → sum_by (λ (p : PoolState). length (logs_in p.kept)) pools ≤ 3000 * length pools
+pub queued-few : (nodes : List Node) → ((a : ℕ) → IsWithinLimits (node_at (map node_in nodes) a).pools) → sum_by (λ (one : Node). length (logs_in one.pools.kept)) nodes ≤ 3000 * length nodes
 queued-few [] limits = omega arith
-queued-few (pool ∷ pools) limits =
-    let rest : sum_by (λ (p : PoolState). length (logs_in p.kept)) pools ≤ 3000 * length pools = queued-few pools (λ a. limits (suc a)) in
-    let fast : length pool.kept.fast ≤ 1000 = (limits 0).fast in
-    let slow : length pool.kept.slow ≤ 2000 = (limits 0).slow in
-    let first : length (logs_in pool.kept) ≤ 3000 = omega (arith, length-append pool.kept.fast pool.kept.slow) in
-    omega (arith, sum_by-cons (λ (p : PoolState). length (logs_in p.kept)) pool pools)
+queued-few (one ∷ nodes) limits =
+    let rest : sum_by (λ (n : Node). length (logs_in n.pools.kept)) nodes ≤ 3000 * length nodes = queued-few nodes (λ a. limits (suc a)) in
+    let fast : length one.pools.kept.fast ≤ 1000 = (limits 0).fast in
+    let slow : length one.pools.kept.slow ≤ 2000 = (limits 0).slow in
+    let first : length (logs_in one.pools.kept) ≤ 3000 = omega (arith, length-append one.pools.kept.fast one.pools.kept.slow) in
+    omega (arith, sum_by-cons (λ (n : Node). length (logs_in n.pools.kept)) one nodes)
 
 -- what is counted, by its parts
 pub counted-by : (h : History) (jobs logs settled failed waiting queued : ℕ) → jobs ≡ length (jobs_of h) → logs ≡ length (logs_of h) → settled ≡ count_by is_settled (logs_of h) → failed ≡ count_by is_failed (logs_of h) → waiting ≡ counted_to (waiting_in h) → queued ≡ queued_in h

@@ -3,7 +3,7 @@ use Rattle.std.proofs.Common.{◌≡◌, ℕ, ◌+◌, ◌<◌, List, [], ◌∷
 use Rattle.std.proofs.lemmas.List.{take_more}
 use Rattle.trigger_pool.specs.Pool.{Queues}
 use Rattle.cluster_plan.specs.declared.prepared.Entering.{Entering}
-use Rattle.cluster_plan.specs.Commits.{entered, pools_with}
+use Rattle.cluster_plan.specs.Nodes.{entered, pools_with}
 
 -- one log behind the others
 pub entered-behind : (pools : Queues) (logs : List Entering) (log : Entering) → entered pools (logs ++ log ∷ []) ≡ pools_with (entered pools logs) log

@@ -1,5 +1,5 @@
 -- What a change beside the rows keeps sound.
-use Rattle.std.proofs.Common.{◌≡◌, ℕ, ◌<◌, ◌≤◌, List, [], ◌∷◌, Bool, true, false, cond, nat_lt, map, length, set, Option, Some, None, refl, sym, ap, ◌∙◌, subst, ⊎_elim, arith}
+use Rattle.std.proofs.Common.{◌≡◌, ℕ, ◌<◌, List, [], ◌∷◌, Bool, true, false, cond, nat_lt, map, length, set, Option, refl, sym, ap, ◌∙◌, subst, ⊎_elim, arith}
 use Rattle.std.proofs.lemmas.Bool.{cases_eq, cases_lt}
 use Rattle.std.proofs.lemmas.Bool.Decides.{nat_tests}
 use Rattle.std.proofs.lemmas.List.{get_or-set_same, get_or-set_other, length-set, get_or_past, length-map, length-append}
@@ -8,14 +8,16 @@ use Rattle.job_records.specs.Rules.{KeepsRules}
 use Rattle.job_records.specs.Tables.{Tables}
 use Rattle.job_values.specs.declared.limits.TheConstants.{FAST_LIMIT, SLOW_LIMIT, SLOW_ABOVE}
 use Rattle.job_values.specs.declared.words.PoolAnswer.TheVariants.{Fast, Slow, Full}
-use Rattle.time_ring.specs.declared.ticket.Ticket.{Ticket}
 use Rattle.trigger_pool.specs.Pool.{Queues, no_logs, with_log}
 use Rattle.trigger_pool.specs.Reports.{late_count}
 use Rattle.cluster_plan.specs.declared.prepared.Entering.{Entering}
 use Rattle.cluster_plan.specs.declared.prepared.NodeChange.{NodeChange}
 use Rattle.cluster_plan.specs.declared.prepared.NodeChange.TheVariants as node
+use Rattle.cluster_history.specs.declared.scan.Scan.{Scan}
+use Rattle.cluster_history.specs.Pages.{unless_owner, stepped}
+use Rattle.cluster_plan.specs.Nodes.{NodeKept, idle, node_at, pools_with, entered, started, stopped, after_step, after_ring, after_firing}
 use Rattle.cluster_plan.specs.Kept.{Kept, IsSound, IsWithinLimits, pools_at}
-use Rattle.cluster_plan.specs.Commits.{node_changed, entered, pools_with, queues_after, rings_with}
+use Rattle.cluster_plan.specs.Commits.{node_changed, with_node}
 
 -- a log goes into a pool only below its limit
 added-few : (slow slow_room fast_room : Bool) (queues : Queues) (log : ℕ) → (fast_room ≡ true → length queues.fast < FAST_LIMIT) → (slow_room ≡ true → length queues.slow < SLOW_LIMIT) → IsWithinLimits queues
@@ -38,81 +40,40 @@ entered-few queues (entering ∷ logs) few =
 none-few : IsWithinLimits no_logs
 none-few = record { fast = omega arith; slow = omega arith }
 
--- the pools of one admin are others
-limits-set : (pools : List Queues) (place : ℕ) (q : Queues) → IsWithinLimits q → ((a : ℕ) → IsWithinLimits (pools_at pools a)) → (a : ℕ) → IsWithinLimits (pools_at (set pools place q) a)
-limits-set pools place q few limits a =
+-- the record of one admin is another
+limits-set : (nodes : List NodeKept) (place : ℕ) (one : NodeKept) → IsWithinLimits one.pools → ((a : ℕ) → IsWithinLimits (node_at nodes a).pools) → (a : ℕ) → IsWithinLimits (node_at (set nodes place one) a).pools
+limits-set nodes place one few limits a =
+    let P : NodeKept → Type 0 = λ n. IsWithinLimits n.pools in
     ⊎_elim (λ same.
-    ⊎_elim (λ within. subst IsWithinLimits (sym (ap (λ n. pools_at (set pools place q) n) same ∙ get_or-set_same pools place q no_logs within)) few)
-    (λ past. subst IsWithinLimits (sym (get_or_past (set pools place q) a no_logs (omega (arith, length-set pools place q)))) none-few)
-    (cases_lt place (length pools)))
-    (λ other. subst IsWithinLimits (sym (get_or-set_other pools place a q no_logs other)) (limits a))
+    ⊎_elim (λ within. subst P (sym (ap (λ n. node_at (set nodes place one) n) same ∙ get_or-set_same nodes place one idle within)) few)
+    (λ past. subst P (sym (get_or_past (set nodes place one) a idle (omega (arith, length-set nodes place one)))) none-few)
+    (cases_lt place (length nodes)))
+    (λ other. subst P (sym (get_or-set_other nodes place a one idle other)) (limits a))
     (cases_eq a place)
 
--- logs enter the pools of an admin
-limits-after : (pools : List Queues) (admin : ℕ) (logs : List Entering) → ((a : ℕ) → IsWithinLimits (pools_at pools a)) → (a : ℕ) → IsWithinLimits (pools_at (queues_after admin logs pools) a)
-limits-after pools admin logs limits = limits-set pools admin (entered (pools_at pools admin) logs) (entered-few (pools_at pools admin) logs (limits admin)) limits
+-- no admin keeps anything
+pub limits-none : (nodes : List NodeKept) (a : ℕ) → IsWithinLimits (node_at (map stopped nodes) a).pools
+limits-none nodes a = let P : NodeKept → Type 0 = λ n. IsWithinLimits n.pools in subst P (sym (get_or-map stopped nodes a idle)) none-few
 
--- no pool has a log
-pub limits-none : (pools : List Queues) (a : ℕ) → IsWithinLimits (pools_at (map (λ (q : Queues). no_logs) pools) a)
-limits-none pools a = subst IsWithinLimits (sym (get_or-map (λ (q : Queues). no_logs) pools a no_logs)) none-few
-
-length-put : (admin : ℕ) (put : Option Ticket) (rings : List (List (List Ticket))) → length (rings_with admin put rings) ≡ length rings
-length-put admin None rings = refl
-length-put admin (Some ticket) rings = length-set rings admin _
+-- a change of one admin that keeps its pools within their limits
+sound-node : (kept : Kept) (scan : Option Scan) (admin : ℕ) (change : NodeKept → NodeKept) → IsWithinLimits (change (node_at kept.nodes admin)).pools → IsSound kept → IsSound (with_node admin change (record kept { scan = scan }))
+sound-node kept scan admin change few sound = record {
+  nodes = length-set kept.nodes admin (change (node_at kept.nodes admin)) ∙ sound.nodes;
+  rules = sound.rules;
+  limits = limits-set kept.nodes admin (change (node_at kept.nodes admin)) few sound.limits;
+}
 
 -- every change beside the rows
 pub sound-changed : (kept : Kept) (change : NodeChange) → IsSound kept → IsSound (node_changed change kept)
 sound-changed kept node.Nothing sound = sound
-sound-changed kept (node.Starts admin) sound = record {
-  running = length-set kept.running admin true ∙ sound.running;
-  rings = sound.rings;
-  pools = sound.pools;
-  rules = sound.rules;
-  limits = sound.limits;
-}
-sound-changed kept (node.Stops admin) sound = record {
-  running = length-set kept.running admin false ∙ sound.running;
-  rings = length-set kept.rings admin _ ∙ sound.rings;
-  pools = length-set kept.pools admin no_logs ∙ sound.pools;
-  rules = sound.rules;
-  limits = limits-set kept.pools admin no_logs none-few sound.limits;
-}
-sound-changed kept node.StopsAll sound = record {
-  running = length-map kept.running _ ∙ sound.running;
-  rings = length-map kept.rings _ ∙ sound.rings;
-  pools = length-map kept.pools _ ∙ sound.pools;
-  rules = sound.rules;
-  limits = limits-none kept.pools;
-}
-sound-changed kept (node.Begins scan) sound = record {
-  running = sound.running;
-  rings = sound.rings;
-  pools = sound.pools;
-  rules = sound.rules;
-  limits = sound.limits;
-}
-sound-changed kept (node.Steps admin put logs) sound = record {
-  running = sound.running;
-  rings = length-put admin put kept.rings ∙ sound.rings;
-  pools = length-set kept.pools admin _ ∙ sound.pools;
-  rules = sound.rules;
-  limits = limits-after kept.pools admin logs sound.limits;
-}
-sound-changed kept (node.Turns admin second logs) sound = record {
-  running = sound.running;
-  rings = length-set kept.rings admin _ ∙ sound.rings;
-  pools = length-set kept.pools admin _ ∙ sound.pools;
-  rules = sound.rules;
-  limits = limits-after kept.pools admin logs sound.limits;
-}
-sound-changed kept (node.Fires admin logs) sound = record {
-  running = sound.running;
-  rings = sound.rings;
-  pools = length-set kept.pools admin _ ∙ sound.pools;
-  rules = sound.rules;
-  limits = limits-after kept.pools admin logs sound.limits;
-}
+sound-changed kept (node.Starts admin) sound = sound-node kept kept.scan admin started (sound.limits admin) sound
+sound-changed kept (node.Stops admin) sound = sound-node kept (unless_owner admin kept.scan) admin stopped none-few sound
+sound-changed kept node.StopsAll sound = record { nodes = length-map kept.nodes stopped ∙ sound.nodes; rules = sound.rules; limits = limits-none kept.nodes }
+sound-changed kept (node.Begins scan) sound = record { nodes = sound.nodes; rules = sound.rules; limits = sound.limits }
+sound-changed kept (node.Steps admin put logs) sound = sound-node kept (stepped kept.scan) admin (after_step put logs) (entered-few (pools_at kept admin) logs (sound.limits admin)) sound
+sound-changed kept (node.Turns admin second logs) sound = sound-node kept kept.scan admin (after_ring second logs) (entered-few (pools_at kept admin) logs (sound.limits admin)) sound
+sound-changed kept (node.Fires admin logs) sound = sound-node kept kept.scan admin (after_firing logs) (entered-few (pools_at kept admin) logs (sound.limits admin)) sound
 
 -- other rows that keep the rules
 pub sound-rows : (kept : Kept) (tables : Tables) → KeepsRules tables → IsSound kept → IsSound (record kept { tables = tables })
-sound-rows kept tables rules sound = record { running = sound.running; rings = sound.rings; pools = sound.pools; rules = rules; limits = sound.limits }
+sound-rows kept tables rules sound = record { nodes = sound.nodes; rules = rules; limits = sound.limits }

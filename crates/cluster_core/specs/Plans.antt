@@ -1,7 +1,6 @@
 -- When an event is prepared.
 use Rattle.std.specs.Prelude.{◌≡◌, [], true}
 use Rattle.job_events.specs.declared.cluster.ClusterEvent.{ClusterEvent}
-use Rattle.job_records.specs.Changes.{AreAllowed}
 use Rattle.cluster_history.specs.History.{is_refusal}
 use Rattle.cluster_plan.specs.Prepared.{PreparedEvent}
 use Rattle.cluster_plan.specs.Plans.{HasIdsFirst}

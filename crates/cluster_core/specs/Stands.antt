@@ -1,23 +1,11 @@
 -- When a cluster stands for a history, and when it answers an event.
-use Rattle.std.specs.Prelude.{◌≡◌, ℕ, List, [], map, filter, Option, Some, None}
-use Rattle.std.specs.List.{range_with_len}
+use Rattle.std.specs.Prelude.{◌≡◌, ℕ, List, Option, Some, None}
 use Rattle.job_events.specs.declared.cluster.ClusterEvent.{ClusterEvent}
 use Rattle.job_events.specs.declared.cluster.ClusterReply.{ClusterReply}
-use Rattle.job_records.specs.Tables.{Tables}
-use Rattle.time_ring.specs.declared.ticket.Ticket.{Ticket as RingTicket}
-use Rattle.job_values.specs.declared.limits.TheConstants.{SLOTS}
-use Rattle.trigger_pool.specs.Pool.{Queues}
-use Rattle.trigger_pool.specs.Reports.{no_counts}
 use Rattle.cluster_history.specs.declared.scan.Scan.{Scan}
-use Rattle.cluster_history.specs.Tickets.{Waiting, waiting, is_in_slot}
-use Rattle.cluster_history.specs.History.{History, After, accepted, settings_of, opening_of}
-use Rattle.cluster_history.specs.Nodes.{runs, admins}
-use Rattle.cluster_history.specs.Groups.{groups_of, last_group}
-use Rattle.cluster_history.specs.Jobs.{jobs_of, last_job, scan_of}
-use Rattle.cluster_history.specs.Logs.{logs_of, last_log, queue_of}
-use Rattle.cluster_history.specs.Registrations.{registry_of}
-use Rattle.cluster_history.specs.Replies.{reply_of}
-use Rattle.cluster_history.specs.Runs.{run, OpensWell}
+use Rattle.cluster_history.specs.History.{History, accepted}
+use Rattle.cluster_history.specs.Jobs.{scan_of}
+use Rattle.cluster_history.specs.Runs.{run}
 use Rattle.cluster_core.specs.Kept.{ClusterState, kept_of}
 use Rattle.cluster_plan.specs.Stands.{Stands, KeptAnswers}
 

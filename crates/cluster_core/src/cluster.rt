@@ -1,32 +1,26 @@
 //! The cluster: what it keeps, and the calls that change it.
-ghost use Rattle.std.specs.Prelude.{◌≡◌, IfOk, OnErr, replicate, false};
-ghost use Rattle.job_values.specs.declared.limits.TheConstants.{ADMINS};
+ghost use Rattle.std.specs.Prelude.{◌≡◌, IfOk, OnErr};
 
+use super::nodes::idle_nodes;
 use super::plan::plan_event;
-use super::pools::no_pools;
-use super::rings::empty_rings;
 use cluster_history::{Scan, Settings};
-use cluster_plan::{Prepared, Seen};
+use cluster_plan::{Node, Prepared, Seen};
 use job_events::{ClusterEvent, ClusterReply};
 use job_records::Records;
-use job_values::limits::ADMINS;
 use job_values::{AdminNo, NoMemory};
 use std::alloc::Global;
 use std::marker::Model;
 use time_ring::TimeRing;
-use trigger_pool::Pools;
 
-/// The admins and what they share. Contracts see the rows, and per admin whether it runs, its ring
-/// and its pools.
+/// The admins and what they share. Contracts see the rows, the open scan, and for each admin whether
+/// it runs, its ring and its pools.
 #[derive(Drop)]
 pub struct Cluster {
     pub(crate) alloc: Global,
     pub(crate) settings: Settings,
-    pub(crate) running: Vec<bool>,
     pub(crate) records: Records,
     pub(crate) scan: Option<Scan>,
-    pub(crate) rings: Vec<TimeRing>,
-    pub(crate) pools: Vec<Pools>,
+    pub(crate) nodes: Vec<Node>,
 }
 
 impl Model for Cluster {
@@ -35,16 +29,9 @@ impl Model for Cluster {
 
     ghost Value = { ClusterState };
 
-    ghost view = { λ c. record { settings = c.settings; running = c.running.items; records = c.records; scan = c.scan; rings = c.rings.items; pools = c.pools.items } };
+    ghost view = { λ c. record { settings = c.settings; records = c.records; scan = c.scan; nodes = c.nodes.items } };
 
-    ghost invariant = { λ c. IsSound (kept_of (record { settings = c.settings; running = c.running.items; records = c.records; scan = c.scan; rings = c.rings.items; pools = c.pools.items })) };
-}
-
-/// No admin runs.
-fn none_running(alloc: Global) -> Result<Vec<bool>, NoMemory>
-    ensures { IfOk result (λ running. running.items ≡ replicate ADMINS false) }
-{
-    vec![in alloc; false; ADMINS].map_err(|_| NoMemory)
+    ghost invariant = { λ c. IsSound (kept_of (record { settings = c.settings; records = c.records; scan = c.scan; nodes = c.nodes.items })) };
 }
 
 impl Cluster {
@@ -64,38 +51,30 @@ impl Cluster {
     pub fn new(alloc: Global, settings: Settings) -> Result<Cluster, NoMemory>
         ensures { IfOk result (λ cluster. StandsFor cluster (Begin (empty_opening settings))) }
     {
-        let running = none_running(alloc)?;
-        let rings = empty_rings(alloc)?;
-        let pools = no_pools(alloc)?;
+        let nodes = idle_nodes(alloc)?;
         Ok(Cluster {
             alloc,
             settings,
-            running,
             records: Records::new(alloc),
             scan: None,
-            rings,
-            pools,
+            nodes,
         })
     }
 
     /// What is kept, lent to the plans.
     fn seen(&self) -> Seen<'_>
         ensures settings { result.settings ≡ self.now.settings }
-        ensures running { result.running.now.items ≡ self.now.running }
         ensures rows { result.records.now ≡ self.now.records }
         ensures scan { result.scan.now ≡ self.now.scan }
-        ensures rings { result.rings.now.items ≡ self.now.rings }
-        ensures pools { result.pools.now.items ≡ self.now.pools }
+        ensures nodes { result.nodes.now.items ≡ self.now.nodes }
         ensures sound { IsSound (kept_of self.now) }
     {
         Seen {
             alloc: self.alloc,
             settings: self.settings,
-            running: &self.running,
             records: &self.records,
             scan: &self.scan,
-            rings: &self.rings,
-            pools: &self.pools,
+            nodes: &self.nodes,
         }
     }
 
@@ -161,13 +140,13 @@ impl Cluster {
     pub fn is_running(&self, admin: AdminNo) -> bool
         ensures { (h : History) → StandsFor self.now h → result ≡ runs (accepted h) admin }
     {
-        self.running[admin.get() as usize]
+        self.nodes[admin.get() as usize].running
     }
 
     /// The tickets that wait in the ring of an admin, in sixty slots.
     pub fn ring(&self, admin: AdminNo) -> &TimeRing
         ensures { (h : History) → StandsFor self.now h → result.now.slots ≡ ring_of (accepted h) admin }
     {
-        &self.rings[admin.get() as usize]
+        &self.nodes[admin.get() as usize].ring
     }
 }

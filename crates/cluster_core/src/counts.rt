@@ -8,11 +8,11 @@ ghost use Rattle.cluster_plan.specs.Kept.{logs_in};
 ghost use Rattle.cluster_core.specs.Stands.{StandsFor};
 
 use super::cluster::Cluster;
+use cluster_plan::Node;
 use job_events::Report;
 use job_records::Log;
 use job_values::PoolKind;
 use job_values::limits::SUCCESS;
-use time_ring::TimeRing;
 use trigger_pool::Pools;
 
 /// Whether a log is neither under way nor settled with success.
@@ -45,12 +45,12 @@ fn count_failed(logs: &[Log]) -> u64
 }
 
 /// How many tickets wait in all rings.
-fn count_waiting(rings: &Vec<TimeRing>) -> u64
-    ensures { result ≡ min (sum_by (λ ring. ticket_count ring.slots) rings.now.items) (u64.MAX) }
+fn count_waiting(nodes: &Vec<Node>) -> u64
+    ensures { result ≡ min (sum_by (λ one. ticket_count one.ring.slots) nodes.now.items) (u64.MAX) }
 {
     let mut waiting: u64 = 0;
-    for ring in rings {
-        waiting = waiting.saturating_add(ring.count());
+    for node in nodes {
+        waiting = waiting.saturating_add(node.ring.count());
     }
     waiting
 }
@@ -66,13 +66,13 @@ fn count_logs(pools: &Pools) -> u64
 }
 
 /// How many logs are in all pools.
-fn count_queued(pools: &Vec<Pools>) -> u64
-    requires { sum_by (λ pool. length (logs_in pool.kept)) pools.now.items < 2 ^ 64 }
-    ensures { result ≡ sum_by (λ pool. length (logs_in pool.kept)) pools.now.items }
+fn count_queued(nodes: &Vec<Node>) -> u64
+    requires { sum_by (λ one. length (logs_in one.pools.kept)) nodes.now.items < 2 ^ 64 }
+    ensures { result ≡ sum_by (λ one. length (logs_in one.pools.kept)) nodes.now.items }
 {
     let mut queued = 0;
-    for pool in pools {
-        queued += count_logs(pool);
+    for node in nodes {
+        queued += count_logs(&node.pools);
     }
     queued
 }
@@ -90,8 +90,8 @@ impl Cluster {
             logs: logs.len() as u64,
             settled: count_settled(logs),
             failed: count_failed(logs),
-            waiting: count_waiting(&self.rings),
-            queued: count_queued(&self.pools),
+            waiting: count_waiting(&self.nodes),
+            queued: count_queued(&self.nodes),
             held: 0,
         }
     }

@@ -5,9 +5,8 @@
 pub mod cluster;
 mod commit;
 mod counts;
+mod nodes;
 mod plan;
-mod pools;
-mod rings;
 mod room;
 mod steps;
 

@@ -5,8 +5,7 @@ ghost use Rattle.cluster_core.specs.Kept.{kept_of};
 ghost use Rattle.cluster_core.specs.Room.{CanCommit};
 
 use super::cluster::Cluster;
-use super::pools::make_place;
-use super::rings::reserve_at;
+use super::nodes::reserve_at;
 use cluster_plan::{NodeChange, Prepared};
 use job_values::NoMemory;
 
@@ -19,11 +18,14 @@ impl Cluster {
         self.records.reserve(prepared.changes())?;
         match prepared.node() {
             NodeChange::Steps(admin, put, logs) => {
-                reserve_at(&mut self.rings, *admin, put)?;
-                make_place(&mut self.pools, *admin, logs.len())
+                reserve_at(&mut self.nodes, *admin, put, logs.len())
             }
-            NodeChange::Turns(admin, _, logs) => make_place(&mut self.pools, *admin, logs.len()),
-            NodeChange::Fires(admin, logs) => make_place(&mut self.pools, *admin, logs.len()),
+            NodeChange::Turns(admin, _, logs) => {
+                reserve_at(&mut self.nodes, *admin, &None, logs.len())
+            }
+            NodeChange::Fires(admin, logs) => {
+                reserve_at(&mut self.nodes, *admin, &None, logs.len())
+            }
             _ => Ok(()),
         }
     }

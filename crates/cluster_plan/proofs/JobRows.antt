@@ -1,14 +1,7 @@
 -- The row of a present job, and another in its place.
-use Rattle.std.proofs.Common.{◌≡◌, ℕ, ◌+◌, ◌<◌, List, [], ◌∷◌, Bool, true, false, cond, eqb, nat_lt, Option, Some, None, Ok, is_some, map, inl, refl, sym, ap, ◌∙◌, subst, arith}
-use Rattle.std.specs.Prelude.{if◌then◌else◌}
+use Rattle.std.proofs.Common.{◌≡◌, ℕ, List, [], ◌∷◌, Bool, true, false, cond, eqb, Option, Some, Ok, is_some, map, inl, refl, sym, ap, ◌∙◌, subst, arith}
 use Rattle.std.proofs.lemmas.Bool.Decides.{nat_tests}
 use Rattle.job_values.specs.declared.spec.JobSpec.{JobSpec}
-use Rattle.job_events.specs.declared.cluster.ClusterEvent.TheVariants.{UpdateJob, StartJob, StopJob}
-use Rattle.job_events.specs.declared.cluster.ClusterRefusal.{ClusterRefusal}
-use Rattle.job_events.specs.declared.cluster.ClusterRefusal.TheVariants.{IdsSpent}
-use Rattle.job_values.specs.declared.limits.TheConstants.{LAST_EDITION}
-use Rattle.job_events.specs.declared.cluster.ClusterReply.{ClusterReply}
-use Rattle.job_events.specs.declared.cluster.ClusterReply.TheVariants.{Running, Updated, Halted, Refused}
 use Rattle.cron_schedule.specs.declared.plan.Plan.{Plan}
 use Rattle.cron_schedule.specs.Parse.{parsed}
 use Rattle.job_records.specs.declared.change.Change.TheVariants as change
@@ -19,22 +12,15 @@ use Rattle.job_records.specs.Tables.{Tables}
 use Rattle.job_records.specs.Changes.{put_row, AreAllowed}
 use Rattle.job_records.proofs.RowLemmas.{rises-from_rising}
 use Rattle.job_records.proofs.Keeping.{keeps_job, job_has_rules}
-use Rattle.cluster_history.specs.declared.settings.Settings.{Settings}
-use Rattle.cluster_history.specs.History.{History, After, accepted, settings_of}
-use Rattle.cluster_history.specs.Groups.{groups_of, group_with}
+use Rattle.cluster_history.specs.History.{History}
+use Rattle.cluster_history.specs.Groups.{group_with}
 use Rattle.cluster_history.specs.Looks.{job_with}
-use Rattle.cluster_history.specs.Jobs.{jobs_of, ids_of, row_of, row_by, last_job, spec_of, edition_of, next_of, plan_of, plan_said, first_time, updated_time}
-use Rattle.cluster_history.specs.Replies.{reply_of, running_reply, edition_reply, halt_reply, update_reply, spec_reply, plan_reply, again_reply, refused}
+use Rattle.cluster_history.specs.Jobs.{jobs_of, ids_of, row_of, last_job, plan_of, plan_said}
 use Rattle.cluster_history.proofs.RowIds.{jobs_rise}
-use Rattle.cluster_plan.specs.declared.prepared.NodeChange.TheVariants as node
 use Rattle.cluster_plan.specs.Kept.{Kept}
-use Rattle.cluster_plan.specs.Plans.{IsPlanned}
 use Rattle.cluster_plan.specs.Stands.{Stands}
-use Rattle.cluster_history.specs.Records.{records_of}
 use Rattle.cluster_plan.specs.Edits.{updated_row, turned_row}
-use Rattle.cluster_plan.proofs.PlanLemmas.{planned-refused}
 use Rattle.cluster_plan.proofs.PutLemmas.{put-changed, found-id, found-within}
-use Rattle.cluster_plan.proofs.RowPlans.{planned-rows}
 
 pub same-id : (id : ℕ) → eqb id id ≡ true
 same-id id = grind (arith, nat_tests)

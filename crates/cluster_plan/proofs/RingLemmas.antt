@@ -1,40 +1,23 @@
 -- The rings of the admins, over the tickets that wait in them.
-use Rattle.std.proofs.Common.{◌≡◌, ℕ, zero, suc, ◌+◌, ◌<◌, List, [], ◌∷◌, ◌++◌, Bool, true, false, not, ◌&&◌, cond, eqb, nat_lt, length, map, filter, get_or, set, refl, sym, ap, ◌∙◌, subst, ⊎_elim, ◌⊎◌, inl, inr, append-nil, arith}
+use Rattle.std.proofs.Common.{◌≡◌, ℕ, zero, suc, ◌+◌, ◌<◌, List, [], ◌∷◌, ◌++◌, Bool, true, false, not, ◌&&◌, cond, eqb, nat_lt, length, map, filter, set, refl, sym, ap, ◌∙◌, subst, ⊎_elim, ◌⊎◌, inl, inr, append-nil, arith}
 use Rattle.std.proofs.lemmas.Bool.{cases_eq}
 use Rattle.std.proofs.lemmas.Bool.Decides.{nat_tests}
-use Rattle.std.proofs.lemmas.List.{get_or-set_same, get_or-set_other, length-set, length-map, map-append}
+use Rattle.std.proofs.lemmas.List.{length-map, map-append}
 use Rattle.std.proofs.lemmas.List.Elements.{filter-append}
-use Rattle.std.proofs.lemmas.List.FromFn.{length-map-range_with_len, get_or-map-range_with_len, fill_by_all, sum_by-map-range_with_len_more}
+use Rattle.std.proofs.lemmas.List.FromFn.{get_or-map-range_with_len, sum_by-map-range_with_len_more}
 use Rattle.std.proofs.lemmas.List.Sums.{sum_by-cons, length-filter}
 use Rattle.std.proofs.lemmas.Simd.{splat_is_map}
-use Rattle.std.specs.Prelude.{count_by, sum_by, slice_set, Some}
+use Rattle.std.specs.Prelude.{count_by, sum_by}
 use Rattle.std.specs.List.{range_with_len}
-use Rattle.job_values.specs.declared.limits.TheConstants.{ADMINS}
 use Rattle.time_ring.specs.declared.ticket.Ticket.{Ticket}
 use Rattle.time_ring.specs.Ring.{slot_of, slot_of_second, slot_before, tickets_in, with_ticket, after_turn, ticket_count, no_tickets}
 use Rattle.cluster_history.specs.Tickets.{Waiting, is_in_slot, is_taken, is_at, taken, left}
-use Rattle.cluster_history.specs.Nodes.{admins}
-use Rattle.cluster_plan.specs.Commits.{rings_with}
-use Rattle.cluster_plan.specs.Kept.{ring_at}
 use Rattle.cluster_plan.specs.Stands.{in_ring, slot_at}
-use Rattle.cluster_plan.proofs.AdminLemmas.{at-admin}
+use Rattle.cluster_plan.proofs.AdminLemmas.{set-range_as, map-same}
 
 -- the ring of an admin, over these tickets
 abbrev pub ring_over : List Waiting → ℕ → List (List Ticket)
 ring_over tickets admin = map (λ slot. slot_at tickets admin slot) (range_with_len 0 60)
-
--- a list over numbers, written at one of them
-pub set-range_as : {X : Type 0} (f g : ℕ → X) (n i : ℕ) (v : X) → i < n → v ≡ g i → ((x : ℕ) → (x ≡ i → ⊥) → f x ≡ g x) → set (map f (range_with_len 0 n)) i v ≡ map g (range_with_len 0 n)
-set-range_as f g n i v h here others =
-    let all = map f (range_with_len 0 n) in
-    fill_by_all g (set all i v) n v (length-set all i v ∙ length-map-range_with_len f 0 n) (λ k lt.
-    ⊎_elim (λ same. ap (λ m. get_or (set all i v) m v) same ∙ get_or-set_same all i v v (subst (λ m. i < m) (sym (length-map-range_with_len f 0 n)) h) ∙ here ∙ ap g (sym same))
-    (λ other. get_or-set_other all i k v v other ∙ get_or-map-range_with_len f 0 n k k v lt (omega arith) ∙ others k other)
-    (cases_eq k i))
-
-map-all : {X : Type 0} (f g : ℕ → X) → ((x : ℕ) → f x ≡ g x) → (xs : List ℕ) → map f xs ≡ map g xs
-map-all f g e [] = refl
-map-all f g e (x ∷ xs) = ap (λ y. y ∷ map f xs) (e x) ∙ ap (λ ys. g x ∷ ys) (map-all f g e xs)
 
 -- a slot of a ring
 pub slot-over : (tickets : List Waiting) (admin slot : ℕ) → slot < 60 → tickets_in (ring_over tickets admin) slot ≡ slot_at tickets admin slot
@@ -76,15 +59,9 @@ ring-one_put tickets ticket admin is =
     ∙ sym (slot-more tickets ticket admin (slot_of ticket.ticket.due)))
     (λ s other. slot-same tickets ticket admin s (not-in_slot admin s ticket other))
 
-ring-others_put : (tickets : List Waiting) (ticket : Waiting) (admin : ℕ) → (admin ≡ ticket.admin → ⊥) → ring_over tickets admin ≡ ring_over (tickets ++ ticket ∷ []) admin
-ring-others_put tickets ticket admin other = map-all (λ s. slot_at tickets admin s) (λ s. slot_at (tickets ++ ticket ∷ []) admin s) (λ s. slot-same tickets ticket admin s (not-of_admin admin s ticket other)) (range_with_len 0 60)
-
--- the rings with a ticket more
-pub rings-put : (tickets : List Waiting) (ticket : Waiting) (admin : ℕ) → ticket.admin ≡ admin → admin < ADMINS → rings_with admin (Some (in_ring ticket)) (map (ring_over tickets) admins) ≡ map (ring_over (tickets ++ ticket ∷ [])) admins
-rings-put tickets ticket admin is below =
-    set-range_as (ring_over tickets) (ring_over (tickets ++ ticket ∷ [])) ADMINS admin (with_ticket (ring_at (map (ring_over tickets) admins) admin) (in_ring ticket)) below
-    (ap (λ ring. with_ticket ring (in_ring ticket)) (at-admin (ring_over tickets) admin [] below) ∙ ring-one_put tickets ticket admin is)
-    (λ a other. ring-others_put tickets ticket a (λ e. other (e ∙ is)))
+-- and the ring of another admin is as it was
+pub ring-others_put : (tickets : List Waiting) (ticket : Waiting) (admin : ℕ) → (admin ≡ ticket.admin → ⊥) → ring_over tickets admin ≡ ring_over (tickets ++ ticket ∷ []) admin
+ring-others_put tickets ticket admin other = map-same (λ s. slot_at tickets admin s) (λ s. slot_at (tickets ++ ticket ∷ []) admin s) (λ s. slot-same tickets ticket admin s (not-of_admin admin s ticket other)) (range_with_len 0 60)
 
 none-step : (b c : Bool) (t : Waiting) (rest : List Waiting) (p : Waiting → Bool) → p t ≡ c → (c ≡ true → b ≡ false) → filter p rest ≡ [] → filter p (cond b (t ∷ rest) rest) ≡ []
 none-step false c t rest p is out none = none
@@ -154,16 +131,10 @@ ring-one_turn tickets admin second =
     ap (λ ring. set ring (slot_before second) []) (set-range_as (λ s. slot_at tickets admin s) (once_emptied tickets admin second) 60 (slot_of_second second) [] (omega arith) (emptied-at tickets admin second) (not-emptied tickets admin second))
     ∙ set-range_as (once_emptied tickets admin second) (λ s. slot_at (left admin second tickets) admin s) 60 (slot_before second) [] (omega arith) (sym (slot-emptied tickets admin second (slot_before second) (inr refl))) (emptied-both tickets admin second)
 
-ring-others_turn : (tickets : List Waiting) (admin second a : ℕ) → (a ≡ admin → ⊥) → ring_over tickets a ≡ ring_over (left admin second tickets) a
+-- and that of another, which does not turn
+pub ring-others_turn : (tickets : List Waiting) (admin second a : ℕ) → (a ≡ admin → ⊥) → ring_over tickets a ≡ ring_over (left admin second tickets) a
 ring-others_turn tickets admin second a other =
-    map-all (λ s. slot_at tickets a s) (λ s. slot_at (left admin second tickets) a s) (λ s. sym (ap (map in_ring) (filter-same (is_in_slot a s) (λ t. not (is_taken admin second t)) (λ t here. other-left admin second a s t other here) tickets))) (range_with_len 0 60)
-
--- the rings after the turn of an admin
-pub rings-turn : (tickets : List Waiting) (admin second : ℕ) → admin < ADMINS → slice_set (map (ring_over tickets) admins) admin (after_turn (ring_at (map (ring_over tickets) admins) admin) second) ≡ map (ring_over (left admin second tickets)) admins
-rings-turn tickets admin second below =
-    set-range_as (ring_over tickets) (ring_over (left admin second tickets)) ADMINS admin (after_turn (ring_at (map (ring_over tickets) admins) admin) second) below
-    (ap (λ ring. after_turn ring second) (at-admin (ring_over tickets) admin [] below) ∙ ring-one_turn tickets admin second)
-    (λ a other. ring-others_turn tickets admin second a other)
+    map-same (λ s. slot_at tickets a s) (λ s. slot_at (left admin second tickets) a s) (λ s. sym (ap (map in_ring) (filter-same (is_in_slot a s) (λ t. not (is_taken admin second t)) (λ t here. other-left admin second a s t other here) tickets))) (range_with_len 0 60)
 
 -- the tickets that a turn takes are those of two slots of its ring
 pub ring-taken : (tickets : List Waiting) (admin second : ℕ) → map in_ring (taken admin second tickets) ≡ tickets_in (ring_over tickets admin) (slot_of_second second) ++ tickets_in (ring_over tickets admin) (slot_before second)
@@ -180,7 +151,7 @@ at-other admin a slot t other here = grind (arith, nat_tests, other, here)
 
 none-over : (tickets : List Waiting) (a : ℕ) → ((s : ℕ) → slot_at tickets a s ≡ []) → ring_over tickets a ≡ no_tickets
 unfolding no_tickets
-none-over tickets a none = map-all (λ s. slot_at tickets a s) (λ s. []) none (range_with_len 0 60) ∙ sym (splat_is_map (range_with_len 0 60) 60 [] refl)
+none-over tickets a none = map-same (λ s. slot_at tickets a s) (λ s. []) none (range_with_len 0 60) ∙ sym (splat_is_map (range_with_len 0 60) 60 [] refl)
 
 -- the ring of an admin that stops
 pub ring-one_stop : (tickets : List Waiting) (admin : ℕ) → ring_over (filter (λ t. not (is_at admin t)) tickets) admin ≡ no_tickets
@@ -188,26 +159,15 @@ ring-one_stop tickets admin =
     none-over (filter (λ t. not (is_at admin t)) tickets) admin
     (λ s. ap (map in_ring) (filter-none (is_in_slot admin s) (λ t. not (is_at admin t)) (λ t here. not-at admin s t here) tickets))
 
-ring-others_stop : (tickets : List Waiting) (admin a : ℕ) → (a ≡ admin → ⊥) → ring_over tickets a ≡ ring_over (filter (λ t. not (is_at admin t)) tickets) a
+-- and that of another, which stays
+pub ring-others_stop : (tickets : List Waiting) (admin a : ℕ) → (a ≡ admin → ⊥) → ring_over tickets a ≡ ring_over (filter (λ t. not (is_at admin t)) tickets) a
 ring-others_stop tickets admin a other =
-    map-all (λ s. slot_at tickets a s) (λ s. slot_at (filter (λ t. not (is_at admin t)) tickets) a s)
+    map-same (λ s. slot_at tickets a s) (λ s. slot_at (filter (λ t. not (is_at admin t)) tickets) a s)
     (λ s. sym (ap (map in_ring) (filter-same (is_in_slot a s) (λ t. not (is_at admin t)) (λ t here. at-other admin a s t other here) tickets))) (range_with_len 0 60)
 
--- the rings after the stop of an admin
-pub rings-stop : (tickets : List Waiting) (admin : ℕ) → admin < ADMINS → slice_set (map (ring_over tickets) admins) admin no_tickets ≡ map (ring_over (filter (λ t. not (is_at admin t)) tickets)) admins
-rings-stop tickets admin below =
-    set-range_as (ring_over tickets) (ring_over (filter (λ t. not (is_at admin t)) tickets)) ADMINS admin no_tickets below
-    (sym (ring-one_stop tickets admin)) (λ a other. ring-others_stop tickets admin a other)
-
-const-mapped : {X Y : Type 0} (f : ℕ → X) (y : Y) (xs : List ℕ) → map (λ (x : X). y) (map f xs) ≡ map (λ (x : ℕ). y) xs
-const-mapped f y [] = refl
-const-mapped f y (x ∷ xs) = ap (λ ys. y ∷ ys) (const-mapped f y xs)
-
--- the rings after the stop of every admin
-pub rings-stop_all : (tickets : List Waiting) → map (λ (ring : List (List Ticket)). no_tickets) (map (ring_over tickets) admins) ≡ map (ring_over []) admins
-rings-stop_all tickets =
-    const-mapped (ring_over tickets) no_tickets admins
-    ∙ map-all (λ a. no_tickets) (ring_over []) (λ a. sym (none-over [] a (λ s. refl))) admins
+-- the ring of an admin for which no ticket waits
+pub ring-none : (admin : ℕ) → no_tickets ≡ ring_over [] admin
+ring-none admin = sym (none-over [] admin (λ s. refl))
 
 count-cons : (p : Waiting → Bool) (t : Waiting) (tickets : List Waiting) → count_by p (t ∷ tickets) ≡ cond (p t) 1 0 + count_by p tickets
 count-cons p t tickets = sum_by-cons (λ x. cond (p x) 1 0) t tickets

@@ -8,7 +8,7 @@ use Rattle.job_records.specs.declared.change.Change.{Change}
 use Rattle.job_records.specs.Tables.{Tables}
 use Rattle.job_records.specs.Changes.{applied_all, AreAllowed}
 use Rattle.cluster_history.specs.History.{History, After, accepted, is_refusal}
-use Rattle.cluster_history.specs.Nodes.{runs, admins}
+use Rattle.cluster_history.specs.Nodes.{admins}
 use Rattle.cluster_history.specs.Jobs.{scan_of}
 use Rattle.cluster_history.specs.Runs.{IsWithin}
 use Rattle.cluster_history.specs.Replies.{reply_of}
@@ -16,16 +16,14 @@ use Rattle.cluster_plan.specs.declared.prepared.NodeChange.TheVariants as node
 use Rattle.cluster_plan.specs.Prepared.{PreparedEvent}
 use Rattle.cluster_plan.specs.Kept.{Kept}
 use Rattle.cluster_plan.specs.Plans.{IsPlanned, HasIdsFirst}
-use Rattle.cluster_plan.specs.Stands.{Stands, ring_of, queues_of}
+use Rattle.cluster_plan.specs.Stands.{Stands, node_of}
 use Rattle.cluster_history.specs.Records.{records_of}
 use Rattle.cluster_plan.proofs.PlanLemmas.{planned}
 
--- an entry leaves the admins, the scan, the rings and the pools as they are
+-- an entry leaves the scan, and what is kept of the admins, as they are
 pub record LeavesNodes (h : History) (e : ClusterEvent) (r : ClusterReply) : Type 0 where
-  pub running : map (runs h) admins ≡ map (runs (After h e r)) admins
   pub scan : scan_of h ≡ scan_of (After h e r)
-  pub rings : map (ring_of h) admins ≡ map (ring_of (After h e r)) admins
-  pub pools : map (queues_of h) admins ≡ map (queues_of (After h e r)) admins
+  pub nodes : map (node_of h) admins ≡ map (node_of (After h e r)) admins
 
 -- changes that are allowed, and make of the rows what the entry makes of them, answer an event that leaves the nodes
 pub planned-rows : (kept : Kept) (e : ClusterEvent) (r : ClusterReply) (changes : List Change) → AreAllowed kept.tables changes → HasIdsFirst changes → IsWithin e → is_refusal r ≡ false → ((h : History) → LeavesNodes h e r)
@@ -36,11 +34,9 @@ planned-rows kept e r changes allowed ids within accepts leaves replies rows =
     planned kept e (record { reply = r; changes = changes; node = node.Nothing }) allowed ids within accepts replies (λ h s.
     record {
       settings = s.keeps.settings;
-      running = s.keeps.running ∙ (leaves h).running;
       tables = ap (λ (t : Tables). applied_all t changes) s.keeps.tables ∙ rows h s;
       scan = s.keeps.scan ∙ (leaves h).scan;
-      rings = s.keeps.rings ∙ (leaves h).rings;
-      pools = s.keeps.pools ∙ (leaves h).pools;
+      nodes = s.keeps.nodes ∙ (leaves h).nodes;
     })
 
 -- the same of what is prepared so, with changes that are these

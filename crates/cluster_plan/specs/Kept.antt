@@ -1,43 +1,40 @@
 -- What a cluster keeps, as contracts see it.
-use Rattle.std.specs.Prelude.{◌≡◌, ℕ, ◌≤◌, nat_lt, List, [], ◌++◌, map, length, slice_index_or, Bool, Option}
+use Rattle.std.specs.Prelude.{◌≡◌, ℕ, ◌≤◌, nat_lt, List, ◌++◌, map, length, Option}
 use Rattle.job_records.specs.Tables.{Tables}
 use Rattle.job_records.specs.Rules.{KeepsRules}
 use Rattle.time_ring.specs.declared.ticket.Ticket.{Ticket}
-use Rattle.trigger_pool.specs.Pool.{Queues, no_logs}
+use Rattle.trigger_pool.specs.Pool.{Queues}
 use Rattle.trigger_pool.specs.Reports.{late_count}
 use Rattle.cluster_history.specs.Openings.{Pools}
 use Rattle.job_values.specs.declared.limits.TheConstants.{ADMINS, FAST_LIMIT, SLOW_LIMIT, SLOW_ABOVE}
 use Rattle.cluster_history.specs.declared.settings.Settings.{Settings}
 use Rattle.cluster_history.specs.declared.scan.Scan.{Scan}
 use Rattle.cluster_plan.specs.declared.seen.Seen.{Seen}
+use Rattle.cluster_plan.specs.Nodes.{NodeKept, node_in, node_at}
 
--- what a cluster keeps: the settings, which admins run, the rows, the open scan, and per admin the sixty lists of its ring and the two queues of its pools
+-- what a cluster keeps: the settings, the rows, the open scan, and a record for each admin
 pub record Kept : Type 0 where
   pub settings : Settings
-  pub running : List Bool
   pub tables : Tables
   pub scan : Option Scan
-  pub rings : List (List (List Ticket))
-  pub pools : List Queues
+  pub nodes : List NodeKept
 
 -- what is lent of it
 abbrev pub kept_in : Seen → Kept
 kept_in seen = record {
   settings = seen.settings;
-  running = seen.running.now.items;
   tables = seen.records.now.kept;
   scan = seen.scan.now;
-  rings = map (λ ring. ring.slots) seen.rings.now.items;
-  pools = map (λ pool. pool.kept) seen.pools.now.items;
+  nodes = map node_in seen.nodes.now.items;
 }
 
 -- the ring of an admin
-abbrev pub ring_at : List (List (List Ticket)) → ℕ → List (List Ticket)
-ring_at rings admin = slice_index_or rings admin []
+abbrev pub ring_at : Kept → ℕ → List (List Ticket)
+ring_at kept admin = (node_at kept.nodes admin).ring
 
 -- the pools of an admin
-abbrev pub pools_at : List Queues → ℕ → Queues
-pools_at pools admin = slice_index_or pools admin no_logs
+abbrev pub pools_at : Kept → ℕ → Queues
+pools_at kept admin = (node_at kept.nodes admin).pools
 
 -- the logs of both pools of an admin
 abbrev pub logs_in : Queues → List ℕ
@@ -58,8 +55,6 @@ pub record IsWithinLimits (queues : Queues) : Type 0 where
 
 -- each admin has its place, the rows keep their rules, and no pool has more logs than it takes
 pub record IsSound (kept : Kept) : Type 0 where
-  pub running : length kept.running ≡ ADMINS
-  pub rings : length kept.rings ≡ ADMINS
-  pub pools : length kept.pools ≡ ADMINS
+  pub nodes : length kept.nodes ≡ ADMINS
   pub rules : KeepsRules kept.tables
-  pub limits : (admin : ℕ) → IsWithinLimits (pools_at kept.pools admin)
+  pub limits : (admin : ℕ) → IsWithinLimits (pools_at kept admin)

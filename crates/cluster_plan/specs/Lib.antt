@@ -1,3 +1,4 @@
+pub mod Nodes
 pub mod Kept
 pub mod Prepared
 pub mod Commits

@@ -16,6 +16,7 @@ use Rattle.cluster_history.specs.Logs.{queue_of}
 use Rattle.cluster_history.specs.Records.{records_of}
 use Rattle.cluster_history.specs.Replies.{reply_of}
 use Rattle.cluster_history.specs.Runs.{OpensWell, AreWithin, IsAnswered}
+use Rattle.cluster_plan.specs.Nodes.{NodeKept}
 use Rattle.cluster_plan.specs.Kept.{Kept}
 
 -- a ticket as a ring keeps it
@@ -34,14 +35,16 @@ ring_of h admin = map (λ slot. slot_at (waiting h) admin slot) (range_with_len 
 abbrev pub queues_of : History → ℕ → Queues
 queues_of h admin = record { fast = queue_of h admin FastPool; slow = queue_of h admin SlowPool; counts = no_counts }
 
+-- what is kept of an admin
+abbrev pub node_of : History → ℕ → NodeKept
+node_of h admin = record { running = runs h admin; ring = ring_of h admin; pools = queues_of h admin }
+
 -- each kept part is what the accepted entries give
 pub record Keeps (kept : Kept) (h : History) : Type 0 where
   pub settings : kept.settings ≡ settings_of h
-  pub running : kept.running ≡ map (runs h) admins
   pub tables : kept.tables ≡ records_of h
   pub scan : kept.scan ≡ scan_of h
-  pub rings : kept.rings ≡ map (ring_of h) admins
-  pub pools : kept.pools ≡ map (queues_of h) admins
+  pub nodes : kept.nodes ≡ map (node_of h) admins
 
 -- it is so, and the entries are those of a legal history
 pub record Stands (kept : Kept) (h : History) : Type 0 where

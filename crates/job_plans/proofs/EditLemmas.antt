@@ -1,5 +1,5 @@
 -- Starts, stops and updates of jobs: the row of a present job is replaced.
-use Rattle.std.proofs.Common.{◌≡◌, ℕ, ◌+◌, ◌<◌, ◌≤◌, List, [], ◌∷◌, Bool, true, false, cond, eqb, nat_lt, Option, Some, None, Ok, Err, is_some, map, inl, refl, sym, ap, ◌∙◌, subst, arith}
+use Rattle.std.proofs.Common.{◌≡◌, ℕ, ◌+◌, ◌<◌, ◌≤◌, List, [], ◌∷◌, Bool, true, false, cond, nat_lt, Option, Some, None, Ok, Err, is_some, refl, sym, ap, ◌∙◌, arith}
 use Rattle.std.specs.Prelude.{if◌then◌else◌}
 use Rattle.std.proofs.lemmas.Bool.Decides.{nat_tests}
 use Rattle.job_values.specs.declared.fault.ScheduleFault.{ScheduleFault}
@@ -16,21 +16,18 @@ use Rattle.cron_schedule.specs.declared.plan.Plan.{Plan}
 use Rattle.cron_schedule.specs.Parse.{parsed}
 use Rattle.job_records.specs.declared.change.Change.TheVariants as change
 use Rattle.job_records.specs.declared.job.Job.{Job}
-use Rattle.job_records.specs.Rows.{changed, RisesFrom}
-use Rattle.job_records.specs.Rules.{KeepsRules, RunsByNext, HasItsSchedule, HasGroup}
+use Rattle.job_records.specs.Rows.{RisesFrom}
+use Rattle.job_records.specs.Rules.{KeepsRules}
 use Rattle.job_records.specs.Tables.{Tables}
-use Rattle.job_records.specs.Changes.{put_row, AreAllowed}
-use Rattle.job_records.proofs.RowLemmas.{rises-from_rising}
-use Rattle.job_records.proofs.Keeping.{keeps_job, job_has_rules}
+use Rattle.job_records.specs.Changes.{put_row}
 use Rattle.job_records.proofs.ZoneLemmas.{zone-says}
 use Rattle.cluster_history.specs.declared.settings.Settings.{Settings}
 use Rattle.cluster_history.specs.History.{History, After, accepted, settings_of}
 use Rattle.cluster_history.specs.Groups.{groups_of, group_with}
 use Rattle.cluster_history.specs.Looks.{job_with}
-use Rattle.cluster_history.specs.Jobs.{jobs_of, ids_of, row_of, row_by, last_job, spec_of, edition_of, next_of, plan_of, plan_said, first_time, updated_time}
+use Rattle.cluster_history.specs.Jobs.{jobs_of, row_of, row_by, spec_of, edition_of, next_of, plan_of, first_time, updated_time}
 use Rattle.cluster_history.specs.Zones.{zone_in, zone_said, zone_of}
 use Rattle.cluster_history.specs.Replies.{reply_of, running_reply, edition_reply, halt_reply, update_reply, spec_reply, plan_reply, clock_reply, again_reply, refused}
-use Rattle.cluster_history.proofs.RowIds.{jobs_rise}
 use Rattle.cluster_plan.specs.declared.prepared.NodeChange.TheVariants as node
 use Rattle.cluster_plan.specs.Kept.{Kept}
 use Rattle.cluster_plan.specs.Plans.{IsPlanned}
@@ -38,7 +35,6 @@ use Rattle.cluster_plan.specs.Stands.{Stands}
 use Rattle.cluster_history.specs.Records.{records_of}
 use Rattle.cluster_plan.specs.Edits.{updated_row, turned_row}
 use Rattle.cluster_plan.proofs.PlanLemmas.{planned-refused}
-use Rattle.cluster_plan.proofs.PutLemmas.{put-changed, found-id, found-within}
 use Rattle.cluster_plan.proofs.RowPlans.{planned-rows}
 use Rattle.cluster_plan.proofs.JobRows.{same-id, plan-parsed, row-found, jobs-put, edit-allowed, turn-allowed, row-stands, rows-rise}
 
@@ -107,7 +103,7 @@ pub start-planned : (kept : Kept) (at job edition next : ℕ) (row new : Job) �
     → IsPlanned kept (StartJob at job) (record { reply = Running edition next; changes = change.PutJob new ∷ []; node = node.Nothing })
 start-planned kept at job edition next row new rules found first below raises made =
     planned-rows kept (StartJob at job) (Running edition next) (change.PutJob new ∷ []) (turn-allowed kept.tables job row new edition (Some next) rules found made) refl tt refl
-    (λ h. record { running = refl; scan = refl; rings = refl; pools = refl })
+    (λ h. record { scan = refl; nodes = refl })
     (λ h s. start-reply kept h at job s
     ∙ ap (running_reply kept.settings at) found
     ∙ ap (edition_reply row.edition) first
@@ -127,7 +123,7 @@ pub stop-planned : (kept : Kept) (job edition : ℕ) (row new : Job) → KeepsRu
     → IsPlanned kept (StopJob job) (record { reply = Halted edition; changes = change.PutJob new ∷ []; node = node.Nothing })
 stop-planned kept job edition row new rules found below raises made =
     planned-rows kept (StopJob job) (Halted edition) (change.PutJob new ∷ []) (turn-allowed kept.tables job row new edition None rules found made) refl tt refl
-    (λ h. record { running = refl; scan = refl; rings = refl; pools = refl })
+    (λ h. record { scan = refl; nodes = refl })
     (λ h s. stop-reply kept h job s ∙ ap halt_reply found ∙ raised (Halted (row.edition + 1)) row.edition below ∙ ap (λ n. Halted n) (sym raises))
     (λ h s.
     let there = row-stands kept h job row found s in
@@ -194,7 +190,7 @@ update-planned kept at job edition spec copied plan zone next row new rules foun
     let is : new ≡ updated_row spec plan edition next row = made ∙ ap (λ x. updated_row x plan edition next row) same in
     let raises = again-is row.edition edition (is_some row.next) (updated_time zone plan at row.next) next says in
     planned-rows kept (UpdateJob at job spec) (Updated edition next) (change.PutJob new ∷ []) (edit-allowed kept.tables job row new spec plan edition next rules found is said (zone-says spec.zone kept.settings.offset zone clock) group) refl tt refl
-    (λ h. record { running = refl; scan = refl; rings = refl; pools = refl })
+    (λ h. record { scan = refl; nodes = refl })
     (λ h s. update-reply kept h at job spec s ∙ update-found kept at job spec row plan zone found group said clock ∙ says)
     (λ h s.
     let there = row-stands kept h job row found s in

@@ -1,44 +1,22 @@
 -- One firing of a job.
-use Rattle.std.proofs.Common.{◌≡◌, ℕ, ◌+◌, ◌<◌, ◌≤◌, List, [], ◌++◌, true, false, cond, eqb, nat_lt, length, map, Option, Some, None, refl, sym, ap, ◌∙◌, subst, Vec, Global, arith}
-use Rattle.std.specs.Prelude.{unwrap_or}
+use Rattle.std.proofs.Common.{◌≡◌, ℕ, ◌+◌, ◌<◌, ◌≤◌, List, [], ◌++◌, true, false, cond, nat_lt, length, map, ap, ◌∙◌, Vec, Global, arith}
 use Rattle.std.proofs.lemmas.Bool.Decides.{nat_tests}
 use Rattle.std.proofs.lemmas.List.FromFn.{length-map-range_with_len}
-use Rattle.job_values.specs.declared.limits.TheConstants.{ADMINS}
 use Rattle.job_values.specs.declared.words.TriggerKind.{TriggerKind}
 use Rattle.job_records.specs.declared.group.Group.{Group}
 use Rattle.job_records.specs.declared.job.Job.{Job}
 use Rattle.job_records.specs.declared.last_ids.LastIds.{LastIds}
-use Rattle.job_values.specs.declared.words.TriggerKind.TheVariants.{Manual}
-use Rattle.job_events.specs.declared.cluster.ClusterEvent.TheVariants.{TriggerJob}
 use Rattle.job_events.specs.declared.cluster.ClusterReply.{ClusterReply}
-use Rattle.job_events.specs.declared.cluster.ClusterReply.TheVariants as reply
-use Rattle.job_events.specs.declared.cluster.ClusterRefusal.TheVariants.{IdsSpent, NoJob}
-use Rattle.job_records.specs.Changes.{AreAllowed, applied_all}
-use Rattle.job_records.specs.Rows.{row_with}
-use Rattle.job_records.specs.Rules.{KeepsRules}
-use Rattle.job_records.specs.Tables.{Tables}
-use Rattle.cluster_history.specs.History.{History, accepted}
-use Rattle.cluster_history.specs.Nodes.{runs, admins}
-use Rattle.cluster_history.specs.Looks.{job_with}
-use Rattle.cluster_history.specs.Jobs.{jobs_of}
-use Rattle.cluster_history.specs.Replies.{reply_after, fire_reply, if_ids, refused}
-use Rattle.cluster_history.specs.Firings.{Shot, shots_with, shot_for, shards, shots_asked, shots_by_hand}
-use Rattle.cluster_history.specs.Groups.{group_with, addresses_in, groups_of}
+use Rattle.job_events.specs.declared.cluster.ClusterRefusal.TheVariants.{IdsSpent}
+use Rattle.cluster_history.specs.Replies.{if_ids, refused}
+use Rattle.cluster_history.specs.Firings.{Shot, shots_with, shot_for, shards}
+use Rattle.cluster_history.specs.Groups.{group_with, addresses_in}
 use Rattle.cluster_history.specs.Openings.{Pools, placed_from, opened_of}
-use Rattle.cluster_history.specs.Logs.{last_log, queue_of}
 use Rattle.log_opening.specs.declared.firing.Fired.{Fired}
 use Rattle.log_opening.specs.declared.opening.Openings.{Openings}
 use Rattle.cluster_plan.specs.declared.prepared.Entering.{Entering}
-use Rattle.cluster_plan.specs.declared.prepared.NodeChange.TheVariants as node
 use Rattle.log_opening.specs.Firing.{Fires}
-use Rattle.cluster_plan.specs.Kept.{Kept, pools_at}
-use Rattle.cluster_plan.specs.Commits.{queues_after}
-use Rattle.cluster_plan.specs.Plans.{IsPlanned}
-use Rattle.cluster_plan.specs.Stands.{Stands}
-use Rattle.cluster_history.specs.Records.{records_of}
 use Rattle.log_opening.specs.Openings.{pools_then, OpensBehind, told_of, put_of, entering_of, opening_changes}
-use Rattle.cluster_plan.proofs.PlanLemmas.{planned, answered-running}
-use Rattle.log_opening.proofs.FiringLemmas.{fired-allowed, fired-tables, fired-pools_by, pools-seen, with_logs}
 
 -- how many logs a firing opens
 pub count-shots : (groups : List Group) (param : List ℕ) (kind : TriggerKind) (at : ℕ) (row : Job) → length (shots_with groups param kind at row) ≡ shards row.spec.route (addresses_in (group_with row.spec.group groups))

@@ -1,9 +1,8 @@
 -- What a firing of an admin makes of the rows and of the pools.
-use Rattle.std.proofs.Common.{◌≡◌, ℕ, ◌+◌, ◌<◌, ◌≤◌, List, [], ◌∷◌, ◌++◌, Bool, true, false, cond, eqb, nat_lt, length, map, All, refl, sym, ap, ◌∙◌, subst, append_assoc, append-nil, length-append, arith}
+use Rattle.std.proofs.Common.{◌≡◌, ℕ, ◌+◌, ◌<◌, ◌≤◌, List, [], ◌∷◌, ◌++◌, Bool, true, false, cond, eqb, length, map, All, refl, sym, ap, ◌∙◌, subst, append_assoc, append-nil, length-append, arith}
 use Rattle.std.proofs.Common.{pos}
 use Rattle.std.specs.List.{list_any}
 use Rattle.std.specs.Ordering.{int_eq}
-use Rattle.std.proofs.lemmas.Bool.Decides.{nat_tests}
 use Rattle.std.proofs.lemmas.List.Elements.{All-cons, All-nil}
 use Rattle.job_values.specs.declared.limits.TheConstants.{ADMINS, LAST_LOG_ID}
 use Rattle.job_values.specs.declared.words.PoolAnswer.{PoolAnswer}
@@ -18,7 +17,7 @@ use Rattle.job_records.specs.Rules.{KeepsRules, HasAddress}
 use Rattle.job_records.specs.Tables.{Tables}
 use Rattle.job_records.specs.Changes.{applied_all, AreAllowed}
 use Rattle.job_records.proofs.Keeping.{keeps_last, put_logs_behind, put_logs_allowed}
-use Rattle.trigger_pool.specs.Pool.{Queues, with_log, no_logs}
+use Rattle.trigger_pool.specs.Pool.{Queues, with_log}
 use Rattle.trigger_pool.specs.Reports.{no_counts}
 use Rattle.job_values.specs.declared.words.PoolKind.{PoolKind}
 use Rattle.job_values.specs.declared.words.PoolKind.TheVariants.{Fast as FastPool, Slow as SlowPool}
@@ -27,16 +26,15 @@ use Rattle.trigger_pool.specs.Reports.{Sending}
 use Rattle.cluster_history.specs.History.{History, Begin, After}
 use Rattle.cluster_history.specs.Openings.{Pools, pools_by, Placed, placed_from, pool_of, one_more, log_of, rows_of, added_to}
 use Rattle.cluster_history.specs.Logs.{queue_of, sendings_of, last_log, pools_of, placed_at, placed_by}
-use Rattle.cluster_history.specs.Nodes.{admins}
 use Rattle.cluster_history.specs.Firings.{Shot}
 use Rattle.cluster_plan.specs.Kept.{Kept, pools_at, pools_in}
-use Rattle.cluster_plan.specs.Commits.{entered, queues_after}
+use Rattle.cluster_plan.specs.Nodes.{entered}
 use Rattle.cluster_plan.specs.Plans.{HasIdsFirst, gives_ids}
 use Rattle.log_opening.specs.Openings.{put_of, entering_of, opening_changes, with_last_log}
 use Rattle.cluster_plan.specs.Stands.{Stands, queues_of}
 use Rattle.cluster_history.specs.Records.{records_of}
-use Rattle.cluster_plan.proofs.AdminLemmas.{at-admin}
-use Rattle.cluster_plan.proofs.RingLemmas.{set-range_as}
+use Rattle.cluster_plan.proofs.AdminLemmas.{same-admin, other-admin}
+use Rattle.cluster_plan.proofs.StandsLemmas.{pools-stand}
 
 -- the rows of logs that are opened from a last id on
 abbrev pub rows_from : ℕ → Pools → List Shot → List Log
@@ -174,8 +172,8 @@ sendings-none (After h Reopen r) a = refl
 queues-seen : (h : History) (admin : ℕ) → pools_in (queues_of h admin) ≡ pools_of h admin
 queues-seen h admin = ap (λ sendings. pools_by (queue_of h admin) sendings) (sym (sendings-none h admin))
 
-pub pools-seen : (kept : Kept) (h : History) (admin : ℕ) → admin < ADMINS → Stands kept h → pools_in (pools_at kept.pools admin) ≡ pools_of h admin
-pools-seen kept h admin below s = ap pools_in (ap (λ ps. pools_at ps admin) s.keeps.pools ∙ at-admin (queues_of h) admin no_logs below) ∙ queues-seen h admin
+pub pools-seen : (kept : Kept) (h : History) (admin : ℕ) → admin < ADMINS → Stands kept h → pools_in (pools_at kept admin) ≡ pools_of h admin
+pools-seen kept h admin below s = ap pools_in (pools-stand kept h admin below s) ∙ queues-seen h admin
 
 -- the queues of an admin after a firing, by whether it is that of this admin
 abbrev queues_by : Bool → (PoolKind → List ℕ) → List Placed → Queues
@@ -188,36 +186,35 @@ queues_by b queue placed = record {
 abbrev pub queues_opened : History → ℕ → List Shot → ℕ → Queues
 queues_opened h admin shots a = queues_by (eqb a admin) (queue_of h a) (placed_by (last_log h) (queue_of h a) (sendings_of h a) shots)
 
--- the pools of all admins after a firing of one
-pub fired-pools : (kept : Kept) (h : History) (admin : ℕ) (shots : List Shot) → admin < ADMINS → Stands kept h
-    → queues_after admin (map entering_of (placed_at h admin shots)) kept.pools ≡ map (queues_opened h admin shots) admins
-fired-pools kept h admin shots below s =
-    let same : eqb admin admin ≡ true = grind (arith, nat_tests) in
-    ap (λ ps. queues_after admin (map entering_of (placed_at h admin shots)) ps) s.keeps.pools
-    ∙ set-range_as (queues_of h) (queues_opened h admin shots) ADMINS admin (entered (pools_at (map (queues_of h) admins) admin) (map entering_of (placed_at h admin shots))) below
-    (ap (λ ps. entered ps (map entering_of (placed_at h admin shots))) (at-admin (queues_of h) admin no_logs below)
-    ∙ ap (λ ps. entered (queues_of h admin) (map entering_of (placed_from (last_log h) ps shots))) (sym (queues-seen h admin))
+-- the pools of an admin after its firing
+pools-fired : (h : History) (admin : ℕ) (shots : List Shot) → entered (queues_of h admin) (map entering_of (placed_at h admin shots)) ≡ queues_opened h admin shots admin
+pools-fired h admin shots =
+    ap (λ ps. entered (queues_of h admin) (map entering_of (placed_from (last_log h) ps shots))) (sym (queues-seen h admin))
     ∙ entered-placed (queues_of h admin) (last_log h) shots
     ∙ ap (λ ps. with_placed (queues_of h admin) (placed_from (last_log h) ps shots)) (queues-seen h admin)
-    ∙ ap (λ b. queues_by b (queue_of h admin) (placed_at h admin shots)) (sym same))
-    (λ a other. let apart : eqb a admin ≡ false = grind (arith, nat_tests, other) in ap (λ b. queues_by b (queue_of h a) (placed_by (last_log h) (queue_of h a) (sendings_of h a) shots)) (sym apart))
+    ∙ ap (λ b. queues_by b (queue_of h admin) (placed_at h admin shots)) (sym (same-admin admin))
+
+-- and those of another
+pub pools-left : (h : History) (admin a : ℕ) (shots : List Shot) → (a ≡ admin → ⊥) → queues_of h a ≡ queues_opened h admin shots a
+pools-left h admin a shots other =
+    ap (λ b. queues_by b (queue_of h a) (placed_by (last_log h) (queue_of h a) (sendings_of h a) shots)) (sym (other-admin a admin other))
 
 -- what the changes of a firing are, by what is kept
 abbrev pub fired_changes : Kept → Pools → List Shot → List Change
 fired_changes kept pools shots = opening_changes kept.tables.last (kept.tables.last.log + length shots) (map put_of (placed_from kept.tables.last.log pools shots))
 
 -- the rows after a firing
-pub fired-tables : (kept : Kept) (h : History) (admin : ℕ) (pools : Pools) (shots : List Shot) → admin < ADMINS → pools ≡ pools_in (pools_at kept.pools admin) → KeepsRules kept.tables → kept.tables.last.log + length shots ≤ LAST_LOG_ID → Stands kept h
+pub fired-tables : (kept : Kept) (h : History) (admin : ℕ) (pools : Pools) (shots : List Shot) → admin < ADMINS → pools ≡ pools_in (pools_at kept admin) → KeepsRules kept.tables → kept.tables.last.log + length shots ≤ LAST_LOG_ID → Stands kept h
     → applied_all kept.tables (fired_changes kept pools shots) ≡ with_logs (records_of h) (last_log h + length shots) (rows_of (placed_at h admin shots))
 fired-tables kept h admin pools shots below here rules room s =
     fired-rows kept.tables pools shots rules room
     ∙ ap (λ (t : Tables). with_logs t (t.last.log + length shots) (rows_from t.last.log pools shots)) s.keeps.tables
     ∙ ap (λ ps. with_logs (records_of h) (last_log h + length shots) (rows_from (last_log h) ps shots)) (here ∙ pools-seen kept h admin below s)
 
--- the pools after a firing, by what is kept
-pub fired-pools_by : (kept : Kept) (h : History) (admin : ℕ) (pools : Pools) (shots : List Shot) → admin < ADMINS → pools ≡ pools_in (pools_at kept.pools admin) → Stands kept h
-    → queues_after admin (map entering_of (placed_from kept.tables.last.log pools shots)) kept.pools ≡ map (queues_opened h admin shots) admins
-fired-pools_by kept h admin pools shots below here s =
-    ap (λ ps. queues_after admin (map entering_of (placed_from kept.tables.last.log ps shots)) kept.pools) (here ∙ pools-seen kept h admin below s)
-    ∙ ap (λ (t : Tables). queues_after admin (map entering_of (placed_from t.last.log (pools_of h admin) shots)) kept.pools) s.keeps.tables
-    ∙ fired-pools kept h admin shots below s
+-- the pools of an admin after its firing, by what is kept
+pub pools-fired_by : (kept : Kept) (h : History) (admin : ℕ) (pools : Pools) (shots : List Shot) → admin < ADMINS → pools ≡ pools_in (pools_at kept admin) → Stands kept h
+    → entered (queues_of h admin) (map entering_of (placed_from kept.tables.last.log pools shots)) ≡ queues_opened h admin shots admin
+pools-fired_by kept h admin pools shots below here s =
+    ap (λ ps. entered (queues_of h admin) (map entering_of (placed_from kept.tables.last.log ps shots))) (here ∙ pools-seen kept h admin below s)
+    ∙ ap (λ (t : Tables). entered (queues_of h admin) (map entering_of (placed_from t.last.log (pools_of h admin) shots))) s.keeps.tables
+    ∙ pools-fired h admin shots

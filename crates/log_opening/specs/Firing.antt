@@ -1,5 +1,5 @@
 -- One firing of a job.
-use Rattle.std.specs.Prelude.{◌≡◌, ℕ, ◌+◌, ◌<◌, ◌≤◌, List, map, length, Option, Some, None}
+use Rattle.std.specs.Prelude.{◌≡◌, ◌+◌, ◌<◌, ◌≤◌, List, map, length, Option, Some, None}
 use Rattle.job_values.specs.declared.limits.TheConstants.{LAST_LOG_ID}
 use Rattle.job_records.specs.declared.last_ids.LastIds.{LastIds}
 use Rattle.cluster_history.specs.Firings.{Shot}

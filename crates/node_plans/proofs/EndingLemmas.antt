@@ -1,12 +1,11 @@
 -- Logs that are ended: the changes are allowed, and end the rows with these ids.
 use Rattle.std.proofs.Common.{◌≡◌, ℕ, ◌+◌, ◌<◌, ◌≤◌, length-append, List, [], ◌∷◌, ◌++◌, Bool, true, false, ◌||◌, cond, eqb, Option, Some, None, length, map, take, get_or, refl, sym, ap, ◌∙◌, subst, append-nil, arith}
-use Rattle.std.specs.Prelude.{slice_index_or, ℤ, pos, negsuc}
-use Rattle.std.specs.List.{list_any, concat, range_with_len, sum}
+use Rattle.std.specs.Prelude.{ℤ, pos, negsuc}
+use Rattle.std.specs.List.{list_any, concat}
 use Rattle.std.proofs.lemmas.Bool.Decides.{nat_tests}
-use Rattle.std.proofs.lemmas.List.{append_assoc, map-id, take_more, map_more, get_or_default}
+use Rattle.std.proofs.lemmas.List.{append_assoc, map-id, take_more, map_more}
 use Rattle.std.proofs.lemmas.List.Folds.{concat-append}
-use Rattle.std.proofs.lemmas.List.FromFn.{map-range_with_len_more}
-use Rattle.std.proofs.lemmas.List.Sums.{fold-append}
+use Rattle.std.proofs.lemmas.List.Sums.{sum_by_push}
 use Rattle.job_records.specs.declared.change.Change.{Change}
 use Rattle.job_records.specs.declared.change.Change.TheVariants.{PutLog}
 use Rattle.job_records.specs.declared.log.Log.{Log}
@@ -16,12 +15,19 @@ use Rattle.job_records.specs.Rules.{HasAddress, KeepsRules}
 use Rattle.job_records.specs.Tables.{Tables}
 use Rattle.job_records.proofs.Keeping.{keeps_log}
 use Rattle.job_records.proofs.RowLemmas.{rises-from_rising}
-use Rattle.trigger_pool.specs.Pool.{PoolState, Queues}
+use Rattle.trigger_pool.specs.Pool.{Queues}
 use Rattle.cluster_history.specs.Settling.{ended_log, log_with}
+use Rattle.cluster_plan.specs.declared.node.Node.{Node}
+use Rattle.cluster_plan.specs.Nodes.{NodeKept, node_in, node_at}
 use Rattle.cluster_plan.specs.Plans.{gives_ids}
-use Rattle.node_plans.specs.Endings.{ending_of, endings, ended_in, over_first}
+use Rattle.node_plans.specs.Endings.{ending_of, endings, ended_in, ending_in, queued_of}
 use Rattle.cluster_plan.specs.Kept.{logs_in, IsWithinLimits}
 use Rattle.cluster_plan.proofs.PutLemmas.{found-id, found-within, put-changed}
+use Rattle.cluster_plan.proofs.ReadLemmas.{node-read}
+
+-- the logs of both pools of a node
+abbrev pub queued_logs : Node → List ℕ
+queued_logs one = logs_in one.pools.kept
 
 -- one id more
 pub endings-append : (logs : List Log) (xs ys : List ℕ) → endings logs (xs ++ ys) ≡ endings logs xs ++ endings logs ys
@@ -52,31 +58,25 @@ logs-few queues few =
     let slow : length queues.slow ≤ 2000 = few.slow in
     omega (arith, length-append queues.fast queues.slow)
 
--- one pool more
-pub pools-more : (logs : List Log) (pools : List PoolState) (i : ℕ) (pool : PoolState) → i < length pools → pool ≡ get_or pools i pool
-    → endings logs (concat (map (λ (p : PoolState). logs_in p.kept) (take (i + 1) pools))) ≡ endings logs (concat (map (λ (p : PoolState). logs_in p.kept) (take i pools))) ++ endings logs (logs_in pool.kept)
-pools-more logs pools i pool within is =
-    let fast : PoolState → List ℕ = λ p. logs_in p.kept in
-    ap (λ qs. endings logs (concat qs)) (map_more fast pools i pool within ∙ ap (λ (p : PoolState). map fast (take i pools) ++ fast p ∷ []) (sym is))
-    ∙ ap (endings logs) (concat-append (map fast (take i pools)) (fast pool ∷ []) ∙ ap (λ q. concat (map fast (take i pools)) ++ q) (append-nil (fast pool)))
-    ∙ endings-append logs (concat (map fast (take i pools))) (fast pool)
+-- and so they have at an admin
+pub node-few : (nodes all : List Node) (i : ℕ) (one : Node) → nodes ≡ all → i < length nodes → one ≡ get_or nodes i one → ((admin : ℕ) → IsWithinLimits (node_at (map node_in all) admin).pools) → IsWithinLimits one.pools.kept
+node-few nodes all i one same within is few =
+    let P : NodeKept → Type 0 = λ n. IsWithinLimits n.pools in
+    subst P (sym (node-read nodes i i one refl within is ∙ ap (λ ns. node_at (map node_in ns) i) same)) (few i)
 
--- one admin more
-pub over_first-more : (running : List Bool) (counted : ℕ → ℕ) (n : ℕ) → over_first running counted (n + 1) ≡ over_first running counted n + cond (slice_index_or running n false) (counted n) 0
-over_first-more running counted n =
-    let f : ℕ → ℕ = λ a. cond (slice_index_or running a false) (counted a) 0 in
-    ap sum (map-range_with_len_more f 0 n n (omega arith)) ∙ fold-append (λ a b. a + b) 0 (map f (range_with_len 0 n)) (f n ∷ [])
+-- the count of one admin more
+pub queued-more : (nodes : List Node) (i : ℕ) (one : Node) → i < length nodes → one ≡ get_or nodes i one → queued_of (map node_in (take (i + 1) nodes)) ≡ queued_of (map node_in (take i nodes)) + ending_in (node_in one)
+queued-more nodes i one within is =
+    ap queued_of (map_more node_in nodes i one within ∙ ap (λ (n : Node). map node_in (take i nodes) ++ node_in n ∷ []) (sym is))
+    ∙ sum_by_push ending_in (map node_in (take i nodes)) (node_in one)
 
--- one admin more that runs, or one that does not
-pub over_first-runs : (running : List Bool) (counted : ℕ → ℕ) (n : ℕ) (run : Bool) → n < length running → run ≡ get_or running n run → run ≡ true → over_first running counted (n + 1) ≡ over_first running counted n + counted n
-over_first-runs running counted n run within is runs =
-    over_first-more running counted n
-    ∙ ap (λ b. over_first running counted n + cond b (counted n) 0) (get_or_default running n false run within ∙ sym is ∙ runs)
-
-pub over_first-stopped : (running : List Bool) (counted : ℕ → ℕ) (n : ℕ) (run : Bool) → n < length running → run ≡ get_or running n run → run ≡ false → over_first running counted (n + 1) ≡ over_first running counted n
-over_first-stopped running counted n run within is stopped =
-    let none : over_first running counted n + cond (slice_index_or running n false) (counted n) 0 ≡ over_first running counted n + 0 = ap (λ b. over_first running counted n + cond b (counted n) 0) (get_or_default running n false run within ∙ sym is ∙ stopped) in
-    omega (arith, over_first-more running counted n, none)
+-- the pools of one admin more
+pub pools-more : (logs : List Log) (nodes : List Node) (i : ℕ) (one : Node) → i < length nodes → one ≡ get_or nodes i one
+    → endings logs (concat (map queued_logs (take (i + 1) nodes))) ≡ endings logs (concat (map queued_logs (take i nodes))) ++ endings logs (queued_logs one)
+pools-more logs nodes i one within is =
+    ap (λ qs. endings logs (concat qs)) (map_more queued_logs nodes i one within ∙ ap (λ (n : Node). map queued_logs (take i nodes) ++ queued_logs n ∷ []) (sym is))
+    ∙ ap (endings logs) (concat-append (map queued_logs (take i nodes)) (queued_logs one ∷ []) ∙ ap (λ q. concat (map queued_logs (take i nodes)) ++ q) (append-nil (queued_logs one)))
+    ∙ endings-append logs (concat (map queued_logs (take i nodes))) (queued_logs one)
 
 -- a log that is ended already is ended alike
 ending-changed : (b c : Bool) (log : Log) (rest before : Option Log) → ending_of rest ≡ ending_of before → ending_of (cond c (Some (cond b (ended_log log) log)) rest) ≡ ending_of (cond c (Some log) before)

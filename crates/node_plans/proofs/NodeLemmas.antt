@@ -1,28 +1,34 @@
 -- The start and the stop of admins.
-use Rattle.std.proofs.Common.{◌≡◌, ℕ, ◌<◌, [], true, false, refl, ap, ◌∙◌}
+use Rattle.std.proofs.Common.{◌≡◌, ℕ, ◌<◌, [], Bool, true, false, cond, refl, sym, ap}
 use Rattle.job_events.specs.declared.cluster.ClusterEvent.TheVariants.{NodeStart, NodeAsk}
 use Rattle.job_events.specs.declared.cluster.ClusterReply.TheVariants.{Done}
 use Rattle.cluster_history.specs.History.{History, After, accepted}
 use Rattle.cluster_history.specs.Nodes.{runs}
 use Rattle.cluster_history.specs.Replies.{start_reply}
 use Rattle.cluster_plan.specs.declared.prepared.NodeChange.TheVariants as node
+use Rattle.cluster_plan.specs.Nodes.{NodeKept, started}
 use Rattle.cluster_plan.specs.Kept.{Kept}
+use Rattle.cluster_plan.specs.Commits.{with_node}
 use Rattle.cluster_plan.specs.Plans.{IsPlanned}
-use Rattle.cluster_plan.specs.Stands.{Stands, Keeps}
-use Rattle.cluster_plan.proofs.AdminLemmas.{set-admin}
+use Rattle.cluster_plan.specs.Stands.{Stands, Keeps, ring_of, queues_of}
+use Rattle.cluster_plan.proofs.AdminLemmas.{same-admin, other-admin}
+use Rattle.cluster_plan.proofs.StandsLemmas.{nodes-changed}
 use Rattle.cluster_plan.proofs.PlanLemmas.{planned, planned-answered, answered-running}
-use Rattle.std.specs.Prelude.{slice_set}
 use Rattle.job_values.specs.declared.limits.TheConstants.{ADMINS}
 
+-- what is kept of an admin, by whether it runs
+abbrev run_by : History → ℕ → Bool → NodeKept
+run_by h admin running = record { running = running; ring = ring_of h admin; pools = queues_of h admin }
+
 -- an admin runs from its start on
-pub stands-started : (kept : Kept) (h : History) (admin : ℕ) → admin < ADMINS → Stands kept h → Keeps (record kept { running = slice_set kept.running admin true }) (After h (NodeStart admin) Done)
+pub stands-started : (kept : Kept) (h : History) (admin : ℕ) → admin < ADMINS → Stands kept h → Keeps (with_node admin started kept) (After h (NodeStart admin) Done)
 stands-started kept h admin below s = record {
   settings = s.keeps.settings;
-  running = ap (λ xs. slice_set xs admin true) s.keeps.running ∙ set-admin (runs h) admin true below;
   tables = s.keeps.tables;
   scan = s.keeps.scan;
-  rings = s.keeps.rings;
-  pools = s.keeps.pools;
+  nodes = nodes-changed kept h (After h (NodeStart admin) Done) admin started below s
+      (ap (λ b. run_by h admin (cond b true (runs h admin))) (sym (same-admin admin)))
+      (λ a other. ap (λ b. run_by h a (cond b true (runs h a))) (sym (other-admin a admin other)));
 }
 
 -- the start of an admin that does not run
@@ -38,4 +44,4 @@ pub planned-ask : (kept : Kept) (admin : ℕ) → ((h : History) → Stands kept
     → IsPlanned kept (NodeAsk admin) (record { reply = Done; changes = []; node = node.Nothing })
 planned-ask kept admin running =
     planned-answered kept (NodeAsk admin) Done tt refl (λ h s. answered-running (runs (accepted h) admin) admin Done (running h s))
-    (λ h s. record { settings = s.keeps.settings; running = s.keeps.running; tables = s.keeps.tables; scan = s.keeps.scan; rings = s.keeps.rings; pools = s.keeps.pools })
+    (λ h s. record { settings = s.keeps.settings; tables = s.keeps.tables; scan = s.keeps.scan; nodes = s.keeps.nodes })

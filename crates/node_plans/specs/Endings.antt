@@ -1,14 +1,13 @@
 -- What the stop of an admin ends.
-use Rattle.std.specs.Prelude.{ℕ, ◌==◌, List, [], ◌∷◌, ◌++◌, map, sum, length, Bool, false, slice_index_or, Option, Some, None, if◌then◌else◌}
-use Rattle.std.specs.List.{list_any, range_with_len}
+use Rattle.std.specs.Prelude.{ℕ, ◌==◌, List, [], ◌∷◌, ◌++◌, map, sum_by, length, Option, Some, None, if◌then◌else◌}
+use Rattle.std.specs.List.{list_any}
 use Rattle.job_records.specs.declared.change.Change.{Change}
 use Rattle.job_records.specs.declared.change.Change.TheVariants.{PutLog}
 use Rattle.job_records.specs.declared.log.Log.{Log}
-use Rattle.time_ring.specs.declared.ticket.Ticket.{Ticket}
 use Rattle.time_ring.specs.Ring.{ticket_count}
-use Rattle.trigger_pool.specs.Pool.{Queues}
 use Rattle.cluster_history.specs.Settling.{ended_log, log_with}
-use Rattle.cluster_plan.specs.Kept.{ring_at, pools_at, logs_in}
+use Rattle.cluster_plan.specs.Nodes.{NodeKept}
+use Rattle.cluster_plan.specs.Kept.{logs_in}
 
 -- the change that ends a log, if it is there
 abbrev pub ending_of : Option Log → List Change
@@ -24,14 +23,18 @@ endings logs (id ∷ ids) = ending_of (log_with id logs) ++ endings logs ids
 abbrev pub ended_in : List ℕ → List Log → List Log
 ended_in ids logs = map (λ log. if list_any (λ id. id == log.id) ids then ended_log log else log) logs
 
--- what is counted of the first admins, of those that run
-abbrev pub over_first : List Bool → (ℕ → ℕ) → ℕ → ℕ
-over_first running counted most = sum (map (λ admin. if slice_index_or running admin false then counted admin else 0) (range_with_len 0 most))
+-- the tickets of an admin, if it runs
+abbrev pub lost_in : NodeKept → ℕ
+lost_in one = if one.running then ticket_count one.ring else 0
 
--- the tickets of the first admins, of those that run
-abbrev pub lost_of : List Bool → List (List (List Ticket)) → ℕ → ℕ
-lost_of running rings most = over_first running (λ admin. ticket_count (ring_at rings admin)) most
+-- the tickets of all admins that run
+abbrev pub lost_of : List NodeKept → ℕ
+lost_of nodes = sum_by lost_in nodes
 
--- the logs in the pools of the first admins, of those that run
-abbrev pub queued_of : List Bool → List Queues → ℕ → ℕ
-queued_of running pools most = over_first running (λ admin. length (logs_in (pools_at pools admin))) most
+-- the logs in the pools of an admin, if it runs
+abbrev pub ending_in : NodeKept → ℕ
+ending_in one = if one.running then length (logs_in one.pools) else 0
+
+-- the logs in the pools of all admins that run
+abbrev pub queued_of : List NodeKept → ℕ
+queued_of nodes = sum_by ending_in nodes

@@ -3,15 +3,16 @@ ghost use Rattle.std.specs.Prelude.{◌≡◌, ℕ, ◌≤◌, ◌++◌, length,
 ghost use Rattle.std.specs.List.{concat};
 ghost use Rattle.job_values.specs.declared.limits.TheConstants.{ADMINS};
 ghost use Rattle.cluster_history.specs.Settling.{ended_log, log_with};
-ghost use Rattle.cluster_plan.specs.Kept.{pools_at, logs_in, IsWithinLimits};
+ghost use Rattle.cluster_plan.specs.Nodes.{node_in, node_at};
+ghost use Rattle.cluster_plan.specs.Kept.{logs_in, IsWithinLimits};
 ghost use Rattle.node_plans.specs.Endings.{ending_of, endings, lost_of, queued_of};
 
+use cluster_plan::Node;
 use job_records::{Change, Log, Records};
-use job_values::limits::{ADMINS, FAILURE};
+use job_values::limits::FAILURE;
 use job_values::{LogId, NoMemory, PoolKind};
 use std::alloc::Global;
 use std::collections::VecDeque;
-use time_ring::TimeRing;
 use trigger_pool::Pools;
 
 /// A log with the trigger code of a stop.
@@ -73,13 +74,13 @@ pub fn end_pools(
 pub fn end_all(
     alloc: Global,
     records: &Records,
-    pools: &Vec<Pools>,
+    nodes: &Vec<Node>,
     changes: &mut Vec<Change>,
 ) -> Result<(), NoMemory>
-    ensures { OnOk result (changes.new.items ≡ changes.old.items ++ endings records.now.kept.logs (concat (map (λ pool. logs_in pool.kept) pools.now.items))) }
+    ensures { OnOk result (changes.new.items ≡ changes.old.items ++ endings records.now.kept.logs (concat (map (λ one. logs_in one.pools.kept) nodes.now.items))) }
 {
-    for pool in pools {
-        end_pools(alloc, records, pool, changes)?;
+    for node in nodes {
+        end_pools(alloc, records, &node.pools, changes)?;
     }
     Ok(())
 }
@@ -95,31 +96,28 @@ pub fn count_logs(pools: &Pools) -> u64
 }
 
 /// How many tickets the rings of the running admins have.
-pub fn lost_tickets(running: &Vec<bool>, rings: &Vec<TimeRing>) -> u64
-    requires running { length running.now.items ≡ ADMINS }
-    requires rings { length rings.now.items ≡ ADMINS }
-    ensures { result ≡ min (lost_of running.now.items (map (λ ring. ring.slots) rings.now.items) ADMINS) (u64.MAX) }
+pub fn lost_tickets(nodes: &Vec<Node>) -> u64
+    ensures { result ≡ min (lost_of (map node_in nodes.now.items)) (u64.MAX) }
 {
     let mut lost: u64 = 0;
-    for at in 0..ADMINS {
-        if running[at] {
-            lost = lost.saturating_add(rings[at].count());
+    for node in nodes {
+        if node.running {
+            lost = lost.saturating_add(node.ring.count());
         }
     }
     lost
 }
 
 /// How many logs the pools of the running admins have.
-pub fn queued_logs(running: &Vec<bool>, pools: &Vec<Pools>) -> u64
-    requires running { length running.now.items ≡ ADMINS }
-    requires pools { length pools.now.items ≡ ADMINS }
-    requires few { (admin : ℕ) → IsWithinLimits (pools_at (map (λ pool. pool.kept) pools.now.items) admin) }
-    ensures { result ≡ queued_of running.now.items (map (λ pool. pool.kept) pools.now.items) ADMINS }
+pub fn queued_logs(nodes: &Vec<Node>) -> u64
+    requires nodes { length nodes.now.items ≡ ADMINS }
+    requires few { (admin : ℕ) → IsWithinLimits (node_at (map node_in nodes.now.items) admin).pools }
+    ensures { result ≡ queued_of (map node_in nodes.now.items) }
 {
     let mut queued: u64 = 0;
-    for place in 0..ADMINS {
-        if running[place] {
-            queued += count_logs(&pools[place]);
+    for node in nodes {
+        if node.running {
+            queued += count_logs(&node.pools);
         }
     }
     queued

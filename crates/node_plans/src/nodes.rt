@@ -33,12 +33,11 @@ pub fn plan_stop(seen: &Seen<'_>, admin: AdminNo) -> Result<Prepared, NoMemory>
         let why = ClusterRefusal::NodeStopped(admin);
         return Ok(Prepared::refusal(seen.alloc, why));
     }
-    let place = admin.get() as usize;
-    let lost = seen.rings[place].count();
-    let pools = &seen.pools[place];
-    let ended = count_logs(pools);
+    let node = seen.node_at(admin);
+    let lost = node.ring.count();
+    let ended = count_logs(&node.pools);
     let mut changes = Vec::new(seen.alloc);
-    end_pools(seen.alloc, seen.records, pools, &mut changes)?;
+    end_pools(seen.alloc, seen.records, &node.pools, &mut changes)?;
     Ok(Prepared::changing(
         ClusterReply::Stopped { lost, ended },
         Seq::of(changes),
@@ -62,10 +61,10 @@ pub fn plan_reopen(seen: &Seen<'_>) -> Result<Prepared, NoMemory>
     requires { IsSound (kept_in seen.now) }
     ensures { IfOk result (IsPlanned (kept_in seen.now) Reopen) }
 {
-    let lost = lost_tickets(seen.running, seen.rings);
-    let ended = queued_logs(seen.running, seen.pools);
+    let lost = lost_tickets(seen.nodes);
+    let ended = queued_logs(seen.nodes);
     let mut changes = Vec::new(seen.alloc);
-    end_all(seen.alloc, seen.records, seen.pools, &mut changes)?;
+    end_all(seen.alloc, seen.records, seen.nodes, &mut changes)?;
     Ok(Prepared::changing(
         ClusterReply::Reopened { lost, ended },
         Seq::of(changes),

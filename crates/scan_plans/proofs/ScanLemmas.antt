@@ -48,9 +48,7 @@ planned-scan kept admin at limit count page many pages counted free running =
     let P : Kept → Type 0 = λ k. Keeps (record k { tables = kept.tables }) (After h (ScanBegin admin at) (Begun count)) in
     subst P (sym begun_is) (record {
       settings = s.keeps.settings;
-      running = s.keeps.running;
       tables = s.keeps.tables;
       scan = ap (λ p. begun admin at p) (is ∙ page-kept kept h at s);
-      rings = s.keeps.rings;
-      pools = s.keeps.pools;
+      nodes = s.keeps.nodes;
     }))

@@ -24,7 +24,7 @@ use Rattle.cluster_history.specs.Pages.{stepped}
 use Rattle.cluster_history.specs.Looks.{Looked, look_in, look_entry, look_row, job_with, next_looked}
 use Rattle.cluster_history.specs.Jobs.{jobs_of, ids_of, row_of, row_by, spec_of, edition_of, next_of, scan_of, look_of}
 use Rattle.cluster_history.specs.Firings.{Shot, shots_stepped, shots_scanned}
-use Rattle.cluster_history.specs.Logs.{last_log, queue_of, pools_of, placed_at}
+use Rattle.cluster_history.specs.Logs.{last_log, pools_of, placed_at}
 use Rattle.cluster_history.specs.Openings.{rows_of, Pools, opened_of, placed_from}
 use Rattle.cluster_history.specs.Replies.{step_reply, entry_reply, look_reply, reply_after, refused}
 use Rattle.scan_plans.specs.declared.pages.Standing.{Standing}
@@ -32,21 +32,23 @@ use Rattle.scan_plans.specs.declared.looks.Look.{Look}
 use Rattle.log_opening.specs.declared.firing.Fired.{Fired}
 use Rattle.cluster_plan.specs.declared.prepared.Entering.{Entering}
 use Rattle.cluster_plan.specs.declared.prepared.NodeChange.TheVariants as node
-use Rattle.cluster_plan.specs.Commits.{rings_with, queues_after}
+use Rattle.cluster_plan.specs.Nodes.{ring_with, nodes_with, after_step}
+use Rattle.cluster_plan.specs.Commits.{with_node}
 use Rattle.cluster_plan.specs.Edits.{turned_row}
 use Rattle.log_opening.specs.Firing.{Fires}
 use Rattle.cluster_plan.specs.Kept.{Kept, pools_at, pools_in}
 use Rattle.log_opening.specs.Openings.{entering_of}
 use Rattle.cluster_plan.specs.Plans.{IsPlanned, HasIdsFirst}
-use Rattle.cluster_plan.specs.Stands.{Stands, Keeps}
+use Rattle.cluster_plan.specs.Stands.{Stands, Keeps, node_of}
 use Rattle.cluster_history.specs.Records.{records_of}
 use Rattle.scan_plans.specs.Steps.{StandsAt, IsNotScanning, ticket_put, shots_decided}
 use Rattle.cluster_plan.proofs.JobRows.{row-found, jobs-put, turn-allowed, row-stands, same-id}
 use Rattle.log_opening.proofs.FireLemmas.{ids-spent, ids-left}
-use Rattle.log_opening.proofs.FiringLemmas.{fired-rows, fired-allowed, fired-ids_job, fired-tables, fired-pools_by, fired_changes, pools-seen, queues_opened, with_logs}
+use Rattle.log_opening.proofs.FiringLemmas.{fired-rows, fired-allowed, fired-ids_job, fired-tables, pools-fired_by, pools-left, fired_changes, pools-seen, queues_opened, with_logs}
 use Rattle.cluster_plan.proofs.PlanLemmas.{planned, answered-running}
 use Rattle.cluster_plan.proofs.PutLemmas.{found-id}
-use Rattle.cluster_plan.proofs.RingLemmas.{ring_over, rings-put}
+use Rattle.cluster_plan.proofs.RingLemmas.{ring_over, ring-one_put, ring-others_put}
+use Rattle.cluster_plan.proofs.StandsLemmas.{node-by, nodes-changed}
 
 -- what the next step looks at, by what is kept
 look-kept : (kept : Kept) (h : History) (admin : ℕ) (standing : Standing) → StandsAt kept.scan admin standing → Stands kept h → look_of h ≡ look_entry kept.settings standing.at kept.tables.jobs (Some standing.entry)
@@ -74,37 +76,48 @@ shots-kept kept h admin standing stands look looks s =
     ∙ ap (λ x. shots_scanned (groups_of h) (Some stands.scan) x) looks
     ∙ ap (λ (t : Tables). shots_scanned t.groups (Some stands.scan) look) (sym s.keeps.tables)
 
--- the rings after a step, by what it looks at
+-- the ticket of a step, by what it looks at
 abbrev ticket_looked : Option Looked → Option Ticket
 ticket_looked None = None
 ticket_looked (Some look) = ticket_put look.row look.decision.put
 
-rings-put_due : (tickets : List Waiting) (admin job edition : ℕ) (row : Job) (put : Option ℕ) → admin < ADMINS → row.id ≡ job → row.edition ≡ edition → rings_with admin (ticket_put row put) (map (ring_over tickets) admins) ≡ map (ring_over (put_due admin job edition put tickets)) admins
-rings-put_due tickets admin job edition row None below id same = refl
-rings-put_due tickets admin job edition row (Some due) below id same =
-    ap (λ j. rings_with admin (Some (record { job = j; edition = row.edition; due = due })) (map (ring_over tickets) admins)) id
-    ∙ ap (λ e. rings_with admin (Some (record { job = job; edition = e; due = due })) (map (ring_over tickets) admins)) same
-    ∙ rings-put tickets (record { admin = admin; ticket = record { job = job; edition = edition; due = due } }) admin refl below
+-- the ring of its admin
+ring-put : (tickets : List Waiting) (admin : ℕ) (row : Job) (put : Option ℕ) → ring_with (ring_over tickets admin) (ticket_put row put) ≡ ring_over (put_due admin row.id row.edition put tickets) admin
+ring-put tickets admin row None = refl
+ring-put tickets admin row (Some due) = ring-one_put tickets (record { admin = admin; ticket = record { job = row.id; edition = row.edition; due = due } }) admin refl
 
-rings-stepped : (kept : Kept) (h : History) (admin : ℕ) (look : Option Looked) → admin < ADMINS → look_of h ≡ look → Stands kept h → rings_with admin (ticket_looked look) kept.rings ≡ map (ring_over (put_behind admin (look_of h) (waiting h))) admins
-rings-stepped kept h admin None below looks s = s.keeps.rings ∙ ap (λ x. map (ring_over (put_behind admin x (waiting h))) admins) (sym looks)
-rings-stepped kept h admin (Some look) below looks s =
-    ap (λ rs. rings_with admin (ticket_put look.row look.decision.put) rs) s.keeps.rings
-    ∙ rings-put_due (waiting h) admin look.row.id look.row.edition look.row look.decision.put below refl refl
-    ∙ ap (λ x. map (ring_over (put_behind admin x (waiting h))) admins) (sym looks)
+ring-stepped : (tickets : List Waiting) (admin : ℕ) (look : Option Looked) → ring_with (ring_over tickets admin) (ticket_looked look) ≡ ring_over (put_behind admin look tickets) admin
+ring-stepped tickets admin None = refl
+ring-stepped tickets admin (Some look) = ring-put tickets admin look.row look.decision.put
+
+-- and that of another
+ring-left_put : (tickets : List Waiting) (admin a : ℕ) (row : Job) (put : Option ℕ) → (a ≡ admin → ⊥) → ring_over tickets a ≡ ring_over (put_due admin row.id row.edition put tickets) a
+ring-left_put tickets admin a row None other = refl
+ring-left_put tickets admin a row (Some due) other = ring-others_put tickets (record { admin = admin; ticket = record { job = row.id; edition = row.edition; due = due } }) a other
+
+ring-left : (tickets : List Waiting) (admin a : ℕ) (look : Option Looked) → (a ≡ admin → ⊥) → ring_over tickets a ≡ ring_over (put_behind admin look tickets) a
+ring-left tickets admin a None other = refl
+ring-left tickets admin a (Some look) other = ring-left_put tickets admin a look.row look.decision.put other
+
+-- what is kept of the admins after a step, by what it looks at and what it opens
+nodes-stepped : (kept : Kept) (h : History) (admin : ℕ) (pools : Pools) (r : ClusterReply) (look : Option Looked) (shots : List Shot) → admin < ADMINS → pools ≡ pools_in (pools_at kept admin) → look_of h ≡ look → shots_stepped h ≡ shots → Stands kept h
+    → nodes_with admin (after_step (ticket_looked look) (map entering_of (placed_from kept.tables.last.log pools shots))) kept.nodes ≡ map (node_of (After h (ScanStep admin) r)) admins
+nodes-stepped kept h admin pools r look shots below here looks opens s =
+    nodes-changed kept h (After h (ScanStep admin) r) admin (after_step (ticket_looked look) (map entering_of (placed_from kept.tables.last.log pools shots))) below s
+    (node-by _ _ _ _ _ _ refl
+    (ring-stepped (waiting h) admin look ∙ ap (λ x. ring_over (put_behind admin x (waiting h)) admin) (sym looks))
+    (pools-fired_by kept h admin pools shots below here s ∙ ap (λ ss. queues_opened h admin ss admin) (sym opens)))
+    (λ a other. node-by _ _ _ _ _ _ refl (ring-left (waiting h) admin a (look_of h) other) (pools-left h admin a (shots_stepped h) other))
 
 -- what stands after a step, by what it looks at and what it opens
-stands-stepped : (kept : Kept) (h : History) (admin : ℕ) (pools : Pools) (r : ClusterReply) (look : Option Looked) (shots : List Shot) (tables : Tables) → admin < ADMINS → pools ≡ pools_in (pools_at kept.pools admin) → look_of h ≡ look → shots_stepped h ≡ shots → Stands kept h
+stands-stepped : (kept : Kept) (h : History) (admin : ℕ) (pools : Pools) (r : ClusterReply) (look : Option Looked) (shots : List Shot) (tables : Tables) → admin < ADMINS → pools ≡ pools_in (pools_at kept admin) → look_of h ≡ look → shots_stepped h ≡ shots → Stands kept h
     → tables ≡ records_of (After h (ScanStep admin) r)
-    → Keeps (record kept { tables = tables; scan = stepped kept.scan; rings = rings_with admin (ticket_looked look) kept.rings; pools = queues_after admin (map entering_of (placed_from kept.tables.last.log pools shots)) kept.pools }) (After h (ScanStep admin) r)
+    → Keeps (with_node admin (after_step (ticket_looked look) (map entering_of (placed_from kept.tables.last.log pools shots))) (record kept { tables = tables; scan = stepped kept.scan })) (After h (ScanStep admin) r)
 stands-stepped kept h admin pools r look shots tables below here looks opens s rows = record {
   settings = s.keeps.settings;
-  running = s.keeps.running;
   tables = rows;
   scan = ap stepped s.keeps.scan;
-  rings = rings-stepped kept h admin look below looks s;
-  pools = fired-pools_by kept h admin pools shots below here s
-      ∙ ap (λ ss. map (queues_opened h admin ss) admins) (sym opens);
+  nodes = nodes-stepped kept h admin pools r look shots below here looks opens s;
 }
 
 -- the rows of the jobs after a step, by what it looks at
@@ -138,10 +151,10 @@ planned-skip kept admin standing below stands rules none running =
     (λ h s.
     let looks : look_of h ≡ None = look-kept kept h admin standing stands s ∙ none in
     let rows : kept.tables ≡ records_of (After h (ScanStep admin) (Skip standing.entry.job)) =
-    fired-tables kept h admin (pools_in (pools_at kept.pools admin)) [] below refl rules (omega (arith, rules.logs.last_id)) s
+    fired-tables kept h admin (pools_in (pools_at kept admin)) [] below refl rules (omega (arith, rules.logs.last_id)) s
     ∙ ap (λ ss. with_logs (records_of h) (last_log h + length ss) (rows_of (placed_at h admin ss))) (sym (no-shots kept h admin standing stands looks s))
     ∙ ap (λ x. record (with_logs (records_of h) (last_log h + length (shots_stepped h)) (rows_of (placed_at h admin (shots_stepped h)))) { jobs = rows_looked h x }) (sym looks) in
-    stands-stepped kept h admin (pools_in (pools_at kept.pools admin)) (Skip standing.entry.job) None [] kept.tables below refl looks (no-shots kept h admin standing stands looks s) s rows)
+    stands-stepped kept h admin (pools_in (pools_at kept admin)) (Skip standing.entry.job) None [] kept.tables below refl looks (no-shots kept h admin standing stands looks s) s rows)
 
 -- the look at the row of the next entry's job
 abbrev pub look_for : Job → Look → Looked
@@ -160,12 +173,12 @@ looked-shots kept h admin standing row look stands looks s =
 
 -- the reply to a look, by what is kept
 look-reply : (kept : Kept) (h : History) (admin : ℕ) (standing : Standing) (row : Job) (look : Look) → admin < ADMINS → runs h admin ≡ true → StandsAt kept.scan admin standing → look_of h ≡ Some (look_for row look) → Stands kept h
-    → reply_after h (ScanStep admin) ≡ look_reply kept.tables.last.log (pools_in (pools_at kept.pools admin)) (shots_decided kept.tables.groups standing.at look.decision row) standing.entry.job (Some (look_for row look))
+    → reply_after h (ScanStep admin) ≡ look_reply kept.tables.last.log (pools_in (pools_at kept admin)) (shots_decided kept.tables.groups standing.at look.decision row) standing.entry.job (Some (look_for row look))
 look-reply kept h admin standing row look below running stands looks s =
     reply-entry h kept admin standing (Some (look_for row look)) running stands looks s
     ∙ ap (λ ss. look_reply (last_log h) (pools_of h admin) ss standing.entry.job (Some (look_for row look))) (looked-shots kept h admin standing row look stands looks s)
     ∙ ap (λ n. look_reply (last_log h) n (shots_decided kept.tables.groups standing.at look.decision row) standing.entry.job (Some (look_for row look))) (sym (pools-seen kept h admin below s))
-    ∙ ap (λ (t : Tables). look_reply t.last.log (pools_in (pools_at kept.pools admin)) (shots_decided kept.tables.groups standing.at look.decision row) standing.entry.job (Some (look_for row look))) (sym s.keeps.tables)
+    ∙ ap (λ (t : Tables). look_reply t.last.log (pools_in (pools_at kept admin)) (shots_decided kept.tables.groups standing.at look.decision row) standing.entry.job (Some (look_for row look))) (sym s.keeps.tables)
 
 -- a step whose logs would need an id above the greatest
 pub spent-look : (kept : Kept) (h : History) (admin : ℕ) (standing : Standing) (row : Job) (look : Look) → admin < ADMINS → runs h admin ≡ true → StandsAt kept.scan admin standing → job_with standing.entry.job kept.tables.jobs ≡ Some row
@@ -176,7 +189,7 @@ spent-look kept h admin standing row look below running stands found seen over s
     ∙ ids-spent kept.tables.last.log (length (shots_decided kept.tables.groups standing.at look.decision row)) _ over
 
 -- a step that looks at a job
-pub planned-look : (kept : Kept) (admin : ℕ) (pools : Pools) (standing : Standing) (row new : Job) (look : Look) (fired : Fired) (changes : List Change) → admin < ADMINS → pools ≡ pools_in (pools_at kept.pools admin) → StandsAt kept.scan admin standing → KeepsRules kept.tables
+pub planned-look : (kept : Kept) (admin : ℕ) (pools : Pools) (standing : Standing) (row new : Job) (look : Look) (fired : Fired) (changes : List Change) → admin < ADMINS → pools ≡ pools_in (pools_at kept admin) → StandsAt kept.scan admin standing → KeepsRules kept.tables
     → job_with standing.entry.job kept.tables.jobs ≡ Some row → look_row kept.settings standing.at standing.entry.edition (Some row) ≡ Some (look_for row look)
     → Fires kept.tables.last pools (shots_decided kept.tables.groups standing.at look.decision row) fired → new ≡ turned_row row.edition look.decision.next row → changes ≡ fired.changes.items ++ PutJob new ∷ []
     → ((h : History) → Stands kept (accepted h) → runs (accepted h) admin ≡ true)
@@ -208,7 +221,7 @@ planned-look kept admin pools standing row new look fired changes below here sta
     ∙ ap (λ (t : Tables). applied_all t (PutJob new ∷ [])) (fired-tables kept h admin pools (shots_decided kept.tables.groups standing.at look.decision row) below here rules fires.ids s)
     ∙ ap (λ ss. applied_all (with_logs (records_of h) (last_log h + length ss) (rows_of (placed_at h admin ss))) (PutJob new ∷ [])) (sym opens)
     ∙ ap (λ js. record (with_logs (records_of h) (last_log h + length (shots_stepped h)) (rows_of (placed_at h admin (shots_stepped h)))) { jobs = js }) (rows-set h standing.entry.job row new (look_for row look) rules_h found_h refl made ∙ ap (rows_looked h) (sym looks)) in
-    let P : List Entering → Type 0 = λ es. Keeps (record kept { tables = applied_all kept.tables changes; scan = stepped kept.scan; rings = rings_with admin (ticket_put row look.decision.put) kept.rings; pools = queues_after admin es kept.pools }) (After h (ScanStep admin) (LookReply standing.entry.job look.decision.case look.due look.decision.next look.decision.put fired.opened)) in
+    let P : List Entering → Type 0 = λ es. Keeps (with_node admin (after_step (ticket_put row look.decision.put) es) (record kept { tables = applied_all kept.tables changes; scan = stepped kept.scan })) (After h (ScanStep admin) (LookReply standing.entry.job look.decision.case look.due look.decision.next look.decision.put fired.opened)) in
     subst P (sym fires.entering) (stands-stepped kept h admin pools (LookReply standing.entry.job look.decision.case look.due look.decision.next look.decision.put fired.opened) (Some (look_for row look)) (shots_decided kept.tables.groups standing.at look.decision row) (applied_all kept.tables changes) below here looks opens s rows))
 
 -- a step of an admin that owns no scan

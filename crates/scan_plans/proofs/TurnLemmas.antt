@@ -1,5 +1,5 @@
 -- The turns of the rings.
-use Rattle.std.proofs.Common.{◌≡◌, ℕ, zero, suc, ◌+◌, ◌<◌, ◌≤◌, List, [], ◌∷◌, ◌++◌, Bool, true, false, cond, eqb, Some, length, map, get_or, take, refl, sym, ap, ◌∙◌, subst, append_assoc, append-nil, length-append, arith}
+use Rattle.std.proofs.Common.{◌≡◌, ℕ, zero, suc, ◌+◌, ◌<◌, ◌≤◌, List, [], ◌∷◌, ◌++◌, Bool, true, false, Some, length, map, get_or, take, refl, sym, ap, ◌∙◌, subst, append_assoc, append-nil, length-append, arith}
 use Rattle.std.proofs.lemmas.List.{take_more}
 use Rattle.job_values.specs.declared.limits.TheConstants.{ADMINS}
 use Rattle.job_values.specs.declared.words.TriggerKind.TheVariants.{Cron}
@@ -17,30 +17,31 @@ use Rattle.time_ring.specs.declared.ticket.Ticket.{Ticket}
 use Rattle.time_ring.specs.Ring.{slot_of_second, slot_before, tickets_in}
 use Rattle.cluster_history.specs.Tickets.{Waiting, waiting, taken, second_of}
 use Rattle.cluster_history.specs.History.{History, After, accepted}
-use Rattle.cluster_history.specs.Nodes.{runs, admins}
+use Rattle.cluster_history.specs.Nodes.{runs}
 use Rattle.cluster_history.specs.Groups.{group_with, addresses_in, groups_of}
 use Rattle.cluster_history.specs.Looks.{job_with}
 use Rattle.cluster_history.specs.Jobs.{jobs_of}
 use Rattle.cluster_history.specs.Firings.{shots_if, shots_by, shots_taken, shots_for, shots_turned, shards}
 use Rattle.cluster_history.specs.Openings.{rows_of, Pools, placed_from, pools_after}
-use Rattle.cluster_history.specs.Logs.{last_log, queue_of, pools_of, placed_at}
+use Rattle.cluster_history.specs.Logs.{last_log, pools_of, placed_at}
 use Rattle.cluster_history.specs.Replies.{reply_after, if_ids, fired_by, fired_from, refused}
 use Rattle.cluster_plan.specs.declared.prepared.Entering.{Entering}
 use Rattle.cluster_plan.specs.declared.prepared.NodeChange.TheVariants as node
 use Rattle.scan_plans.specs.declared.turns.Turned.{Turned}
 use Rattle.cluster_plan.specs.Kept.{Kept, ring_at, pools_at, pools_in}
-use Rattle.cluster_plan.specs.Commits.{queues_after, rings_turned}
+use Rattle.cluster_plan.specs.Nodes.{entered, after_ring}
+use Rattle.cluster_plan.specs.Commits.{with_node}
 use Rattle.cluster_plan.specs.Plans.{IsPlanned, HasIdsFirst}
-use Rattle.cluster_plan.specs.Stands.{Stands, Keeps, in_ring}
+use Rattle.cluster_plan.specs.Stands.{Stands, Keeps, in_ring, queues_of}
 use Rattle.cluster_history.specs.Records.{records_of}
 use Rattle.log_opening.specs.Openings.{pools_then, OpensBehind, told_of, put_of, entering_of, opening_changes}
 use Rattle.scan_plans.specs.Turning.{shots_at, shots_all, told_at, told_all, FiresBehind, FiresAll}
 use Rattle.log_opening.proofs.FireLemmas.{count-shots, ids-spent, ids-left}
-use Rattle.log_opening.proofs.FiringLemmas.{fired-allowed, fired-ids, fired-tables, fired-pools_by, fired_changes, pools-seen, queues_opened, with_logs}
+use Rattle.log_opening.proofs.FiringLemmas.{fired-allowed, fired-ids, fired-tables, pools-fired_by, pools-left, fired_changes, pools-seen, queues_opened, with_logs}
 use Rattle.log_opening.proofs.OpeningLemmas.{opens-both, pools-append}
 use Rattle.cluster_plan.proofs.PlanLemmas.{planned, answered-running}
-use Rattle.cluster_plan.proofs.RingLemmas.{ring-taken, rings-turn}
-use Rattle.cluster_plan.proofs.StandsLemmas.{ring-stands}
+use Rattle.cluster_plan.proofs.RingLemmas.{ring-taken, ring-one_turn, ring-others_turn}
+use Rattle.cluster_plan.proofs.StandsLemmas.{ring-stands, node-by, nodes-changed}
 
 -- what a ticket of a present job is to open
 pub shots-found : (t : Tables) (at total : ℕ) (ticket : Ticket) (row : Job) → job_with ticket.job t.jobs ≡ Some row → total ≡ shards row.spec.route (addresses_in (group_with row.spec.group t.groups)) → shots_at t at ticket ≡ shots_by row row.spec.param Cron at total
@@ -132,7 +133,7 @@ told-in_ring t at last pools (ticket ∷ tickets) =
 -- the tickets of a turn: those in two slots of the ring that is kept
 abbrev pub turn_tickets : Kept → ℕ → ℕ → List Ticket
 turn_tickets kept admin at =
-    tickets_in (ring_at kept.rings admin) (slot_of_second (second_of at)) ++ tickets_in (ring_at kept.rings admin) (slot_before (second_of at))
+    tickets_in (ring_at kept admin) (slot_of_second (second_of at)) ++ tickets_in (ring_at kept admin) (slot_before (second_of at))
 
 tickets-kept : (kept : Kept) (h : History) (admin at : ℕ) → admin < ADMINS → Stands kept h → turn_tickets kept admin at ≡ map in_ring (taken admin (second_of at) (waiting h))
 tickets-kept kept h admin at below s =
@@ -146,7 +147,7 @@ shots-kept kept h admin at below s =
     ∙ shots-in_ring (records_of h) at (taken admin (second_of at) (waiting h))
 
 -- what is told of the tickets of a turn
-told-kept : (kept : Kept) (h : History) (admin at : ℕ) (pools : Pools) → admin < ADMINS → pools ≡ pools_in (pools_at kept.pools admin) → Stands kept h
+told-kept : (kept : Kept) (h : History) (admin at : ℕ) (pools : Pools) → admin < ADMINS → pools ≡ pools_in (pools_at kept admin) → Stands kept h
     → told_all kept.tables at kept.tables.last.log pools (turn_tickets kept admin at) ≡ fired_from (groups_of h) (jobs_of h) at (last_log h) (pools_of h admin) (taken admin (second_of at) (waiting h))
 told-kept kept h admin at pools below here s =
     ap (λ (t : Tables). told_all t at t.last.log pools (turn_tickets kept admin at)) s.keeps.tables
@@ -155,7 +156,7 @@ told-kept kept h admin at pools below here s =
     ∙ told-in_ring (records_of h) at (last_log h) (pools_of h admin) (taken admin (second_of at) (waiting h))
 
 -- the reply to a turn, by what is kept
-turn-reply : (kept : Kept) (h : History) (admin at : ℕ) (pools : Pools) → admin < ADMINS → pools ≡ pools_in (pools_at kept.pools admin) → runs h admin ≡ true → Stands kept h
+turn-reply : (kept : Kept) (h : History) (admin at : ℕ) (pools : Pools) → admin < ADMINS → pools ≡ pools_in (pools_at kept admin) → runs h admin ≡ true → Stands kept h
     → reply_after h (Turn admin at)
     ≡ if_ids kept.tables.last.log (length (shots_all kept.tables at (turn_tickets kept admin at))) (reply.Fired (told_all kept.tables at kept.tables.last.log pools (turn_tickets kept admin at)))
 turn-reply kept h admin at pools below here running s =
@@ -165,7 +166,7 @@ turn-reply kept h admin at pools below here running s =
     ∙ ap (λ (t : Tables). if_ids t.last.log (length (shots_all kept.tables at (turn_tickets kept admin at))) (reply.Fired (told_all kept.tables at kept.tables.last.log pools (turn_tickets kept admin at)))) (sym s.keeps.tables)
 
 -- a turn whose ids are spent
-pub spent-turn : (kept : Kept) (h : History) (admin at : ℕ) (pools : Pools) → admin < ADMINS → pools ≡ pools_in (pools_at kept.pools admin) → runs h admin ≡ true
+pub spent-turn : (kept : Kept) (h : History) (admin at : ℕ) (pools : Pools) → admin < ADMINS → pools ≡ pools_in (pools_at kept admin) → runs h admin ≡ true
     → 9223372036854775807 < kept.tables.last.log + length (shots_all kept.tables at (turn_tickets kept admin at)) → Stands kept h → reply_after h (Turn admin at) ≡ refused IdsSpent
 spent-turn kept h admin at pools below here running over s =
     turn-reply kept h admin at pools below here running s ∙ ids-spent kept.tables.last.log (length (shots_all kept.tables at (turn_tickets kept admin at))) _ over
@@ -202,26 +203,27 @@ turns-all kept at pools tickets x y changes none fires made =
     }
 
 -- the cluster after a turn stands for the history with it
-turned-stands : (kept : Kept) (h : History) (admin at : ℕ) (pools : Pools) (changes : List Change) (entering : List Entering) (fired : List FiredTicket) → admin < ADMINS → pools ≡ pools_in (pools_at kept.pools admin) → KeepsRules kept.tables
+turned-stands : (kept : Kept) (h : History) (admin at : ℕ) (pools : Pools) (changes : List Change) (entering : List Entering) (fired : List FiredTicket) → admin < ADMINS → pools ≡ pools_in (pools_at kept admin) → KeepsRules kept.tables
     → Turns kept at pools (turn_tickets kept admin at) changes entering fired → Stands kept h
-    → Keeps (record kept { tables = applied_all kept.tables changes; rings = rings_turned admin (second_of at) kept.rings; pools = queues_after admin entering kept.pools }) (After h (Turn admin at) (reply.Fired fired))
+    → Keeps (with_node admin (after_ring (second_of at) entering) (record kept { tables = applied_all kept.tables changes })) (After h (Turn admin at) (reply.Fired fired))
 turned-stands kept h admin at pools changes entering fired below here rules turns s =
     let shots = shots-kept kept h admin at below s in
     record {
       settings = s.keeps.settings;
-      running = s.keeps.running;
       scan = s.keeps.scan;
       tables = ap (applied_all kept.tables) turns.rows
           ∙ fired-tables kept h admin pools (shots_all kept.tables at (turn_tickets kept admin at)) below here rules turns.ids s
           ∙ ap (λ ss. with_logs (records_of h) (last_log h + length ss) (rows_of (placed_at h admin ss))) shots;
-      rings = ap (λ rings. rings_turned admin (second_of at) rings) s.keeps.rings ∙ rings-turn (waiting h) admin (second_of at) below;
-      pools = ap (λ es. queues_after admin es kept.pools) turns.entered
-          ∙ fired-pools_by kept h admin pools (shots_all kept.tables at (turn_tickets kept admin at)) below here s
-          ∙ ap (λ ss. map (queues_opened h admin ss) admins) shots;
+      nodes = nodes-changed kept h (After h (Turn admin at) (reply.Fired fired)) admin (after_ring (second_of at) entering) below s
+          (node-by _ _ _ _ _ _ refl (ring-one_turn (waiting h) admin (second_of at))
+          (ap (entered (queues_of h admin)) turns.entered
+          ∙ pools-fired_by kept h admin pools (shots_all kept.tables at (turn_tickets kept admin at)) below here s
+          ∙ ap (λ ss. queues_opened h admin ss admin) shots))
+          (λ a other. node-by _ _ _ _ _ _ refl (ring-others_turn (waiting h) admin (second_of at) a other) (pools-left h admin a (shots_turned h admin at) other));
     }
 
 -- a turn that fires all its tickets
-pub planned-turn : (kept : Kept) (admin at : ℕ) (pools : Pools) (changes : List Change) (entering : List Entering) (fired : List FiredTicket) → admin < ADMINS → pools ≡ pools_in (pools_at kept.pools admin) → KeepsRules kept.tables
+pub planned-turn : (kept : Kept) (admin at : ℕ) (pools : Pools) (changes : List Change) (entering : List Entering) (fired : List FiredTicket) → admin < ADMINS → pools ≡ pools_in (pools_at kept admin) → KeepsRules kept.tables
     → Turns kept at pools (turn_tickets kept admin at) changes entering fired → ((h : History) → Stands kept (accepted h) → runs (accepted h) admin ≡ true)
     → IsPlanned kept (Turn admin at) (record { reply = reply.Fired fired; changes = changes; node = node.Turns admin (second_of at) entering })
 planned-turn kept admin at pools changes entering fired below here rules turns running =
@@ -234,7 +236,7 @@ planned-turn kept admin at pools changes entering fired below here rules turns r
     (λ h s. turned-stands kept h admin at pools changes entering fired below here rules turns s)
 
 -- two slots that were read are those of the turn
-pub slots-turn : (kept : Kept) (admin at moment : ℕ) (present past : List Ticket) → moment ≡ at → present ≡ tickets_in (ring_at kept.rings admin) (slot_of_second (second_of moment)) → past ≡ tickets_in (ring_at kept.rings admin) (slot_before (second_of moment))
+pub slots-turn : (kept : Kept) (admin at moment : ℕ) (present past : List Ticket) → moment ≡ at → present ≡ tickets_in (ring_at kept admin) (slot_of_second (second_of moment)) → past ≡ tickets_in (ring_at kept admin) (slot_before (second_of moment))
     → present ++ past ≡ turn_tickets kept admin at
 slots-turn kept admin at moment present past same now before =
-    ap (λ xs. xs ++ past) now ∙ ap (λ ys. tickets_in (ring_at kept.rings admin) (slot_of_second (second_of moment)) ++ ys) before ∙ ap (λ n. turn_tickets kept admin n) same
+    ap (λ xs. xs ++ past) now ∙ ap (λ ys. tickets_in (ring_at kept admin) (slot_of_second (second_of moment)) ++ ys) before ∙ ap (λ n. turn_tickets kept admin n) same

@@ -115,10 +115,10 @@ fn fire_slots(
 /// The tickets in the slot of a second of an admin's ring, and in the slot before.
 fn slots_at<'a>(seen: &Seen<'a>, admin: AdminNo, second: u64) -> (&'a [Ticket], &'a [Ticket])
     requires { IsSound (kept_in seen.now) }
-    ensures present { result.0.now ≡ tickets_in (ring_at (kept_in seen.now).rings admin) (slot_of_second second) }
-    ensures past { result.1.now ≡ tickets_in (ring_at (kept_in seen.now).rings admin) (slot_before second) }
+    ensures present { result.0.now ≡ tickets_in (ring_at (kept_in seen.now) admin) (slot_of_second second) }
+    ensures past { result.1.now ≡ tickets_in (ring_at (kept_in seen.now) admin) (slot_before second) }
 {
-    seen.rings[admin.get() as usize].slots(second)
+    seen.node_at(admin).ring.slots(second)
 }
 
 /// The ring of an admin turns, and fires the tickets of two slots.

@@ -1,4 +1,4 @@
-use Rattle.std.proofs.Common.{refl, sym, ap, ◌∙◌, subst, Bool}
+use Rattle.std.proofs.Common.{sym, ap, ◌∙◌, subst, Bool}
 use Rattle.job_events.specs.declared.cluster.ClusterEvent.TheVariants.{UpdateJob}
 use Rattle.job_records.specs.declared.job.Job.{Job}
 use Rattle.cluster_plan.specs.Prepared.{PreparedEvent}

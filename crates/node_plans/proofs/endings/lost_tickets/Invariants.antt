@@ -1,6 +1,7 @@
-use Rattle.std.proofs.Common.{◌≡◌, min, map, ◌^◌, ◌-◌}
+use Rattle.std.proofs.Common.{◌≡◌, min, map, take, ◌^◌, ◌-◌}
+use Rattle.cluster_plan.specs.Nodes.{node_in}
 use Rattle.node_plans.specs.Endings.{lost_of}
 use Rattle.node_plans.proofs.endings.lost_tickets.Given as goal
 
-abbrev pub invariant-loop-at : goal.invariant-loop-at
-invariant-loop-at l = l.lost ≡ min (lost_of l.running.items (map (λ ring. ring.slots) l.rings.items) l.at) (2 ^ 64 - 1)
+abbrev pub invariant-loop-node : goal.invariant-loop-node
+invariant-loop-node l = l.lost ≡ min (lost_of (map node_in (take l.node-index l.node-items))) (2 ^ 64 - 1)

@@ -1,6 +1,4 @@
-use Rattle.std.proofs.Common.{◌≡◌, Some, sym, subst}
-use Rattle.job_records.specs.declared.log.Log.{Log}
-use Rattle.job_records.specs.Rows.{row_with}
+use Rattle.std.proofs.Common.{sym}
 use Rattle.node_plans.proofs.ShownLemmas.{planned-shown}
 use Rattle.node_plans.proofs.shown.plan_read_log.Goals as goal
 

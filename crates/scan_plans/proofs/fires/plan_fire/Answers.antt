@@ -4,8 +4,6 @@ use Rattle.job_values.specs.declared.limits.TheConstants.{LAST_LOG_ID}
 use Rattle.job_values.specs.declared.words.TriggerKind.TheVariants.{Manual}
 use Rattle.job_records.specs.declared.job.Job.{Job}
 use Rattle.job_records.specs.Rows.{row_with}
-use Rattle.job_records.specs.Rules.{KeepsRules}
-use Rattle.std.specs.Prelude.{unwrap_or}
 use Rattle.cluster_history.specs.History.{accepted}
 use Rattle.cluster_history.specs.Firings.{shots_with}
 use Rattle.log_opening.specs.Firing.{FiresAs, Fires}

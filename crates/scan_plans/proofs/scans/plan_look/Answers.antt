@@ -1,19 +1,17 @@
-use Rattle.std.proofs.Common.{◌≡◌, ◌<◌, ◌+◌, ◌∙◌, length, Option, Some, None, ap, sym, subst, refl, arith}
+use Rattle.std.proofs.Common.{◌∙◌, Option, Some, None, ap, sym, subst, refl, arith}
 use Rattle.std.proofs.lemmas.Result.{IfOk-weaker}
 use Rattle.job_records.specs.declared.job.Job.{Job}
-use Rattle.job_records.specs.Rules.{KeepsRules}
 use Rattle.job_events.specs.declared.cluster.ClusterEvent.TheVariants.{ScanStep}
 use Rattle.cluster_history.specs.History.{accepted}
 use Rattle.cluster_history.specs.Looks.{look_row}
-use Rattle.scan_plans.specs.declared.looks.Look.{Look}
 use Rattle.scan_plans.specs.declared.pages.Standing.{Standing}
 use Rattle.cluster_plan.specs.Prepared.{PreparedEvent}
-use Rattle.log_opening.specs.Firing.{FiresAs, Fires}
+use Rattle.log_opening.specs.Firing.{FiresAs}
 use Rattle.cluster_plan.specs.Kept.{kept_in, pools_in}
 use Rattle.cluster_plan.specs.Plans.{IsPlanned}
 use Rattle.scan_plans.specs.Steps.{shots_decided}
 use Rattle.cluster_plan.proofs.PlanLemmas.{planned-refused}
-use Rattle.scan_plans.proofs.StepLemmas.{planned-skip, planned-look, spent-look, look_for}
+use Rattle.scan_plans.proofs.StepLemmas.{planned-skip, planned-look, spent-look}
 use Rattle.scan_plans.proofs.scans.plan_look.Goals as goal
 
 pub returns-in_default : goal.returns-in_default

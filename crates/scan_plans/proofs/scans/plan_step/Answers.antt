@@ -2,11 +2,10 @@ use Rattle.std.proofs.Common.{◌≡◌, ◌∙◌, ℕ, Option, Some, None, ap,
 use Rattle.std.specs.Option.{option_copied}
 use Rattle.job_records.specs.declared.job.Job.{Job}
 use Rattle.job_records.specs.Rows.{row_with}
-use Rattle.job_records.specs.Rules.{KeepsRules}
 use Rattle.cluster_history.specs.History.{accepted}
 use Rattle.cluster_history.specs.Looks.{look_row}
 use Rattle.cluster_plan.specs.Kept.{kept_in}
-use Rattle.scan_plans.specs.Steps.{StandsAt, IsNotScanning}
+use Rattle.scan_plans.specs.Steps.{StandsAt}
 use Rattle.cluster_plan.proofs.PlanLemmas.{planned-refused, refused-stopped}
 use Rattle.cluster_plan.proofs.PutLemmas.{found-id}
 use Rattle.scan_plans.proofs.StepLemmas.{not-scanning, planned-skip}

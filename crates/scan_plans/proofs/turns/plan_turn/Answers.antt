@@ -1,7 +1,6 @@
 use Rattle.std.proofs.Common.{◌≡◌, ◌<◌, ◌+◌, ◌++◌, ◌∙◌, length, List, ap, sym, subst, arith}
 use Rattle.job_values.specs.declared.limits.TheConstants.{LAST_LOG_ID}
 use Rattle.job_records.specs.declared.last_ids.LastIds.{LastIds}
-use Rattle.job_records.specs.Rules.{KeepsRules}
 use Rattle.time_ring.specs.declared.ticket.Ticket.{Ticket}
 use Rattle.cluster_history.specs.History.{accepted}
 use Rattle.cluster_plan.specs.Kept.{kept_in, pools_in}

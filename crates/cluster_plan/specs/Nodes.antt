@@ -1,0 +1,65 @@
+-- What is kept of an admin, and what an event makes of it.
+use Rattle.std.specs.Prelude.{ℕ, List, [], ◌∷◌, slice_index_or, slice_set, Bool, true, false, Option, Some, None}
+use Rattle.time_ring.specs.declared.ticket.Ticket.{Ticket}
+use Rattle.time_ring.specs.Ring.{with_ticket, after_turn, no_tickets}
+use Rattle.trigger_pool.specs.Pool.{Queues, no_logs, with_log, answer_at}
+use Rattle.trigger_pool.specs.Reports.{late_count}
+use Rattle.cluster_plan.specs.declared.node.Node.{Node}
+use Rattle.cluster_plan.specs.declared.prepared.Entering.{Entering}
+
+-- what is kept of an admin: whether it runs, the sixty lists of its ring, and the two queues of its pools
+pub record NodeKept : Type 0 where
+  pub running : Bool
+  pub ring : List (List Ticket)
+  pub pools : Queues
+
+-- the same of a node, without its room
+abbrev pub node_in : Node → NodeKept
+node_in one = record { running = one.running; ring = one.ring.slots; pools = one.pools.kept }
+
+-- an admin that does not run: no ticket waits, and no log
+abbrev pub idle : NodeKept
+idle = record { running = false; ring = no_tickets; pools = no_logs }
+
+-- what is kept of an admin, of what is kept of each
+abbrev pub node_at : List NodeKept → ℕ → NodeKept
+node_at nodes admin = slice_index_or nodes admin idle
+
+-- the same for each admin, with one changed
+abbrev pub nodes_with : ℕ → (NodeKept → NodeKept) → List NodeKept → List NodeKept
+nodes_with admin change nodes = slice_set nodes admin (change (node_at nodes admin))
+
+-- pools with a log more
+abbrev pub pools_with : Queues → Entering → Queues
+pools_with pools entering =
+    with_log pools entering.log (answer_at (late_count pools.counts entering.job) pools.fast pools.slow)
+
+-- pools after these logs
+abbrev pub entered : Queues → List Entering → Queues
+entered pools [] = pools
+entered pools (entering ∷ others) = entered (pools_with pools entering) others
+
+-- a ring with a ticket more, if there is a ticket
+abbrev pub ring_with : List (List Ticket) → Option Ticket → List (List Ticket)
+ring_with ring None = ring
+ring_with ring (Some ticket) = with_ticket ring ticket
+
+-- an admin that starts
+abbrev pub started : NodeKept → NodeKept
+started one = record one { running = true }
+
+-- an admin that stops keeps nothing
+abbrev pub stopped : NodeKept → NodeKept
+stopped one = idle
+
+-- an admin that made a step: its ticket is in the ring, if there is one, and its logs in the pools
+abbrev pub after_step : Option Ticket → List Entering → NodeKept → NodeKept
+after_step put logs one = record one { ring = ring_with one.ring put; pools = entered one.pools logs }
+
+-- an admin whose ring turned at a second: its logs are in the pools
+abbrev pub after_ring : ℕ → List Entering → NodeKept → NodeKept
+after_ring second logs one = record one { ring = after_turn one.ring second; pools = entered one.pools logs }
+
+-- an admin that fired by hand: its logs are in the pools
+abbrev pub after_firing : List Entering → NodeKept → NodeKept
+after_firing logs one = record one { pools = entered one.pools logs }

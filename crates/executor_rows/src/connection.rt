@@ -16,7 +16,7 @@
 
 use crate::handlers::names;
 use crate::outcome::Outcome;
-use crate::setting::{beginning, number, settings};
+use crate::setting::{beginning, close, number, settings};
 use crate::wire::{answer_text, refusal_text};
 use executor_node::{ExecutorEnd, serve_executor, share_executor};
 use http_reading::HttpFault;
@@ -218,7 +218,7 @@ impl Connection {
         let served = serve_executor(
             rt, alloc, &settings, &shared, &mut seat, &mut clock, &mut link,
         );
-        let (_machine, entries) = shared.close(rt, seat);
+        let (entries, _held) = close(rt, &shared, seat);
         let mut outcome = Outcome::new(alloc, served.end);
         outcome.requests = served.requests;
         outcome.entries = entries;

@@ -1,8 +1,12 @@
 //! Where the rows are played: an executor `demo` with two admins, at a moment.
 
-use executor_node::ExecutorSettings;
+ghost use Rattle.std.specs.Prelude.{◌≡◌};
+
+use executor_node::{ExecutorMachine, ExecutorSettings};
 use job_values::{Moment, NoMemory, Seq, Text};
 use std::alloc::Global;
+use std::sync::Wait;
+use turn_lock::{Seat, Shared};
 
 /// The hosts of the admins.
 pub const ADMINS: [&str; 2] = ["a1:9000", "a2:9001"];
@@ -28,6 +32,19 @@ pub fn beginning() -> Moment {
         Some(at) => at,
         None => unreachable!(),
     }
+}
+
+/// Ends an executor through its only seat: how many entries it has had, and how many logs it holds.
+pub fn close<R: Wait>(
+    rt: &R,
+    shared: &Shared<ExecutorMachine>,
+    seat: Seat<ExecutorMachine>,
+) -> (u64, u64)
+    requires here { seat.shared ≡ shared.now }
+    requires all { seat.parts ≡ 9223372036854775808 }
+{
+    let (machine, entries) = shared.close(rt, seat);
+    (entries, machine.executor().held())
 }
 
 /// The number that decimal digits say, up to the greatest.

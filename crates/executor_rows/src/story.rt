@@ -8,6 +8,7 @@ ghost use Rattle.turn_lock.specs.Seats.{IsSameSeat};
 
 use crate::calls::{World, give};
 use crate::handlers::names;
+use crate::setting::close;
 use executor_node::{ExecutorMachine, share_executor};
 use job_values::{CallbackItem, NoMemory, Seq};
 use spool_text::{SpoolFault, read_spool};
@@ -72,8 +73,7 @@ fn is_lived<R: Wait>(
     if !are_so(rt, alloc, &shared, &mut seat, world, calls)? {
         return Ok(false);
     }
-    let (machine, entries) = shared.close(rt, seat);
-    let held = machine.executor().held();
+    let (entries, held) = close(rt, &shared, seat);
     let given = format!(in alloc; "{entries} entries, {held} held")?;
     Ok(stopped.trim_end() == given.as_str())
 }

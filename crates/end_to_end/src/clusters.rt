@@ -1,7 +1,7 @@
 //! What a cluster lends, and events that are prepared and dropped or committed.
 use cluster_core::Cluster;
 use cluster_history::Settings;
-use job_values::{AdminNo, JobId, Moment, Offset};
+use job_values::Offset;
 use script_text::{read_line, write_reply};
 use std::alloc::Global;
 use std::process::Abort;
@@ -24,10 +24,6 @@ const LOOKED: [(&str, &str); 6] = [
 ];
 
 const FIRE: &str = "fire 0 112000 1 -\n";
-
-fn admin(rt: &impl Abort, number: u8) -> AdminNo {
-    AdminNo::new(number).expect(rt, "an admin")
-}
 
 /// A cluster after these lines, each of which gave its reply.
 fn looked(rt: &impl Abort, alloc: Global) -> Result<Cluster, Fail> {
@@ -69,28 +65,5 @@ fn committed_events_reply_as_prepared(rt: HostRuntime) -> Result<(), Fail> {
     assert_eq!(rt; text.as_slice(), b"opened 1 1:fast\n".as_slice());
     assert_eq!(rt; cluster.counts().queued, 1);
     assert_eq!(rt; cluster.records().last_ids().log, 1);
-    Ok(())
-}
-
-/// The row and the waiting ticket of a job are shown as they are.
-#[test]
-fn rows_and_rings_are_shown(rt: HostRuntime) -> Result<(), Fail> {
-    let cluster = looked(&rt, rt.alloc())?;
-    let id = JobId::new(1).expect(&rt, "a job");
-    let row = cluster.records().job(id).ok_or("a job")?;
-    assert!(rt; row.next == Moment::new(125_000));
-    let (present, past) = cluster.ring(admin(&rt, 0)).slots(115);
-    assert_eq!(rt; present.len(), 1);
-    assert_eq!(rt; past.len(), 0);
-    Ok(())
-}
-
-/// The admins and the lock too.
-#[test]
-fn admins_are_shown(rt: HostRuntime) -> Result<(), Fail> {
-    let cluster = looked(&rt, rt.alloc())?;
-    assert!(rt; cluster.is_running(admin(&rt, 0)));
-    assert!(rt; !cluster.is_running(admin(&rt, 63)));
-    assert!(rt; cluster.lock_owner().is_none());
     Ok(())
 }

@@ -1,8 +1,8 @@
 //! Lines of the worked rows: their events, and what is said of their replies.
 use job_events::{ExecutorEvent, ExecutorRefusal, ExecutorReply, FinishCode};
 use job_values::{
-    BoundedText, CallbackItem, JobId, LineNo, LogId, LogMoment, Moment, Run, RunnerNo, Seq,
-    ShardNo, Text, Timeout,
+    BoundedText, CallbackItem, JobId, LogId, LogMoment, Moment, Run, RunnerNo, Seq, ShardNo, Text,
+    Timeout,
 };
 use std::alloc::Global;
 use std::process::Abort;
@@ -15,17 +15,11 @@ pub enum Line {
     Run(u64, &'static str, u64),
     /// One that may last five seconds.
     Limited(u64, &'static str, u64),
-    /// One of another handler.
-    Handled(u64, &'static str),
-    /// One of another glue type.
-    Glued(u64, &'static str),
-    Beat,
     Idle,
     Kill,
     Poll(u8, u64),
     Finish(u8, u64),
     Expire(u64),
-    Read(u64),
     Take,
     Ack,
     Fail(bool),
@@ -84,17 +78,6 @@ pub fn event(rt: &impl Abort, alloc: Global, line: &Line) -> Result<ExecutorEven
             run.timeout = Timeout::new(5).expect(rt, "a timeout");
             ExecutorEvent::Run(run, at(rt, *ms))
         }
-        Line::Handled(of, handler) => {
-            let mut run = asked(rt, alloc, *of, "COVER_EARLY")?;
-            run.handler = text(rt, alloc, handler)?;
-            ExecutorEvent::Run(run, at(rt, 100_000))
-        }
-        Line::Glued(of, glue) => {
-            let mut run = asked(rt, alloc, *of, "COVER_EARLY")?;
-            run.glue = text(rt, alloc, glue)?;
-            ExecutorEvent::Run(run, at(rt, 100_000))
-        }
-        Line::Beat => ExecutorEvent::Beat,
         Line::Idle => ExecutorEvent::IdleBeat(job(rt)),
         Line::Kill => ExecutorEvent::Kill(job(rt)),
         Line::Poll(number, ms) => ExecutorEvent::Poll(runner(rt, *number), at(rt, *ms)),
@@ -105,9 +88,6 @@ pub fn event(rt: &impl Abort, alloc: Global, line: &Line) -> Result<ExecutorEven
             text(rt, alloc, "")?,
         ),
         Line::Expire(ms) => ExecutorEvent::Expire(at(rt, *ms)),
-        Line::Read(of) => {
-            ExecutorEvent::ReadLines(log(rt, *of), LineNo::new(1).expect(rt, "a line"))
-        }
         Line::Take => ExecutorEvent::BatchTake,
         Line::Ack => ExecutorEvent::BatchAck,
         Line::Fail(saved) => ExecutorEvent::BatchFail(*saved),
@@ -126,20 +106,14 @@ pub enum Said {
     Item(u64, i32),
     NoItem(u64),
     Expired(u64),
-    /// The number of the last line.
-    Lines(u64),
     Batch(&'static [(u64, i32)]),
     Reloaded(u64),
     Kept(&'static [(u64, i32)]),
     Held(u64),
-    NotBean,
-    NoHandler,
     Discarded,
     Running,
     RunnerBusy(u64),
     Nothing,
-    NotRunning,
-    NoLines,
     BatchOut,
     NoBatch,
 }
@@ -155,13 +129,9 @@ fn is_refused(why: &ExecutorRefusal, said: &Said) -> bool {
     match (why, said) {
         (ExecutorRefusal::Held(log), Said::Held(of)) => log.get() == *of,
         (ExecutorRefusal::RunnerBusy(log), Said::RunnerBusy(of)) => log.get() == *of,
-        (ExecutorRefusal::NotBean, Said::NotBean) => true,
-        (ExecutorRefusal::NoHandler, Said::NoHandler) => true,
         (ExecutorRefusal::Discarded, Said::Discarded) => true,
         (ExecutorRefusal::Running, Said::Running) => true,
         (ExecutorRefusal::Nothing, Said::Nothing) => true,
-        (ExecutorRefusal::NotRunning, Said::NotRunning) => true,
-        (ExecutorRefusal::NoLines, Said::NoLines) => true,
         (ExecutorRefusal::BatchOut, Said::BatchOut) => true,
         (ExecutorRefusal::NoBatch, Said::NoBatch) => true,
         _ => false,
@@ -179,7 +149,6 @@ pub fn is_said(reply: &ExecutorReply, said: &Said) -> bool {
         (ExecutorReply::Item(log, code), Said::Item(of, is)) => log.get() == *of && code == is,
         (ExecutorReply::NoItem(log), Said::NoItem(of)) => log.get() == *of,
         (ExecutorReply::Expired(count), Said::Expired(of)) => count == of,
-        (ExecutorReply::Lines(lines), Said::Lines(of)) => lines.to == *of,
         (ExecutorReply::Batch(items), Said::Batch(of)) => are_said(items, of),
         (ExecutorReply::Reloaded(count), Said::Reloaded(of)) => count == of,
         (ExecutorReply::Kept(items), Said::Kept(of)) => are_said(items, of),

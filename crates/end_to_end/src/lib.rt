@@ -1,5 +1,5 @@
 //! Tests that cross crates, or that would make a crate with dear proofs be proved twice: calls over
-//! memory whose reads, writes and growths fail, and calls that no worked row reaches.
+//! memory whose reads and writes fail, and calls that no worked row reaches.
 #![tactic(auto)]
 
 #[cfg(test)]
@@ -9,14 +9,6 @@ mod executor_lines;
 #[cfg(test)]
 mod executors;
 #[cfg(test)]
-mod file_spools;
-#[cfg(test)]
-mod lines;
-#[cfg(test)]
-mod outsides;
-#[cfg(test)]
 mod records;
 #[cfg(test)]
 mod replays;
-#[cfg(test)]
-mod schedules;

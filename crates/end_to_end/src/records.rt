@@ -2,7 +2,6 @@
 ghost use Rattle.std.specs.Prelude.{◌≡◌, map};
 
 use job_records::{Change, LastIds, Log, Records, RegistryRow};
-use job_values::limits::SUCCESS;
 use job_values::{
     Block, BoundedText, GroupId, JobId, LogId, Moment, Retries, Route, Seq, ShardNo, Text, Timeout,
     TriggerKind,
@@ -105,23 +104,6 @@ fn logs_are_dropped_in_runs(rt: HostRuntime) {
     );
 }
 
-#[test]
-fn a_sent_log_has_an_address(rt: HostRuntime) {
-    let alloc = rt.alloc();
-    let mut records = Records::new(alloc);
-    put(&rt, alloc, &mut records, last_ids(0, 0, 1));
-    let nowhere = log(&rt, alloc, 1, SUCCESS);
-    assert!(rt; !allows(&rt, alloc, &records, Change::PutLog(nowhere)));
-    let mut sent = log(&rt, alloc, 1, SUCCESS)
-        .copy(alloc)
-        .expect(&rt, "memory");
-    sent.address = Some(text(&rt, alloc, "http://here:9999/"));
-    put(&rt, alloc, &mut records, Change::PutLog(sent));
-    let first = LogId::new(1).expect(&rt, "a log id");
-    let found = records.log(first).expect(&rt, "log 1");
-    assert_eq!(rt; found.trigger_code, SUCCESS);
-}
-
 /// The keys, values and beats of the registrations, in order.
 fn has_registrations(records: &Records, rows: &[(&str, &str, u64)]) -> bool {
     records.registry().len() == rows.len()
@@ -146,25 +128,4 @@ fn registrations_rise_by_key_and_value(rt: HostRuntime) {
     }
     let rows = [("a", "z", 3), ("ab", "x", 4), ("b", "x", 2), ("b", "y", 5)];
     assert!(rt; has_registrations(&records, &rows));
-}
-
-#[test]
-fn registrations_are_dropped_and_not_empty(rt: HostRuntime) {
-    let alloc = rt.alloc();
-    let mut records = Records::new(alloc);
-    let row = registration(&rt, alloc, "a", "x", 1)
-        .copy(alloc)
-        .expect(&rt, "memory");
-    put(&rt, alloc, &mut records, Change::PutRegistry(row));
-    let key = text(&rt, alloc, "a");
-    let value = text(&rt, alloc, "x");
-    put(
-        &rt,
-        alloc,
-        &mut records,
-        Change::DropRegistry { key, value },
-    );
-    assert!(rt; records.registry().is_empty());
-    let empty = registration(&rt, alloc, "", "x", 1);
-    assert!(rt; !allows(&rt, alloc, &records, Change::PutRegistry(empty)));
 }

@@ -1,4 +1,4 @@
-//! Replays over memory: a line past its limit, and each read and write failing in turn.
+//! Replays over memory, with each read and write failing in turn.
 use outside::{BytesSink, BytesSource, MemorySink, MemorySource};
 use replay_program::replay_main;
 use std::alloc::Global;
@@ -14,18 +14,6 @@ fn run(alloc: Global) -> Result<Vec<String>, Fail> {
     let mut words = Vec::new(alloc);
     words.push(String::from_str(alloc, "run")?)?;
     Ok(words)
-}
-
-#[test]
-fn a_long_line_is_too_large(rt: HostRuntime) -> Result<(), Fail> {
-    let run = run(rt.alloc())?;
-    let line = vec![in rt.alloc(); b'x'; 262_145]?;
-    let mut source = BytesSource::new(line.as_slice());
-    let mut sink = BytesSink::new(rt.alloc());
-    let status = replay_main(rt.alloc(), run.as_slice(), &mut source, &mut sink);
-    assert_eq!(rt; sink.taken(), b"too large 1\n".as_slice());
-    assert_eq!(rt; status, 6);
-    Ok(())
 }
 
 /// Whether a replay whose source fails at this call, if it comes to it, ends with status 3 just then and
@@ -66,15 +54,5 @@ fn each_write_may_fail(rt: HostRuntime) -> Result<(), Fail> {
     for call in 1..30 {
         assert!(rt; is_told_at_write(rt.alloc(), run.as_slice(), call)?);
     }
-    Ok(())
-}
-
-#[test]
-fn a_full_sink_is_told(rt: HostRuntime) -> Result<(), Fail> {
-    let run = run(rt.alloc())?;
-    let mut source = BytesSource::new(b"");
-    let mut sink = MemorySink::new(rt.alloc()).in_pieces(0);
-    let status = replay_main(rt.alloc(), run.as_slice(), &mut source, &mut sink);
-    assert_eq!(rt; status, 4);
     Ok(())
 }

@@ -9,3 +9,6 @@ mod tcp;
 pub use file_spool::FileSpool;
 pub use streams::{StreamSink, StreamSource};
 pub use tcp::{TcpDialer, TcpLink};
+
+#[cfg(test)]
+mod tests;

@@ -1,9 +1,10 @@
-//! The streams, links and dialers, each on a short text.
+//! The adapters and the dialers in memory, each on a short text.
+use crate::{FileSpool, StreamSink, StreamSource, TcpDialer, TcpLink};
+use job_values::Text;
 use outside::{
-    BytesDialer, BytesLink, BytesSink, BytesSource, Dialer, Link, MemoryDialer, MemoryLink, Sink,
-    Source, send,
+    BytesDialer, BytesLink, BytesSink, BytesSource, Dialer, Failed, Link, MemoryDialer, MemoryLink,
+    Sink, Source, Spool, SpoolError, send,
 };
-use outside_real::{StreamSink, StreamSource, TcpDialer, TcpLink};
 use std::collections::VecDeque;
 use std::net::TcpListener;
 use std::test::Fail;
@@ -80,5 +81,34 @@ fn tcp_link_carries_bytes(rt: HostRuntime) -> Result<(), Fail> {
     assert_eq!(rt; into, *b"abc\0");
     dialer.hang_up(link);
     assert_eq!(rt; peer.read(&mut into), Ok(0));
+    Ok(())
+}
+
+/// A save replaces all bytes, and what is opened again has them.
+#[test]
+fn a_save_replaces_all_bytes(rt: HostRuntime) -> Result<(), Fail> {
+    let file = Text::copied(rt.alloc(), "results.txt")?;
+    let mut spool = FileSpool::new(rt.alloc(), rt);
+    assert_eq!(rt; spool.attach(&file), Ok(()));
+    assert_eq!(rt; spool.save(b"first and long"), Ok(()));
+    assert_eq!(rt; spool.save(b"second"), Ok(()));
+    let mut again = FileSpool::new(rt.alloc(), rt);
+    assert_eq!(rt; again.attach(&file), Ok(()));
+    let bytes = again.load().map_err(|_| "no bytes")?;
+    assert_eq!(rt; bytes.as_slice(), b"second".as_slice());
+    Ok(())
+}
+
+/// Without a file each call fails; a file that is not there has no bytes, and one in no folder keeps none.
+#[test]
+fn a_missing_file_has_no_bytes(rt: HostRuntime) -> Result<(), Fail> {
+    let mut spool = FileSpool::new(rt.alloc(), rt);
+    assert_eq!(rt; spool.save(b"a"), Err(Failed));
+    assert_eq!(rt; spool.load().err(), Some(SpoolError::Failed));
+    let file = Text::copied(rt.alloc(), "no-folder/results.txt")?;
+    assert_eq!(rt; spool.attach(&file), Ok(()));
+    let bytes = spool.load().map_err(|_| "no bytes")?;
+    assert!(rt; bytes.is_empty());
+    assert_eq!(rt; spool.save(b"a"), Err(Failed));
     Ok(())
 }

@@ -5,18 +5,15 @@
 
 mod clusters;
 mod executors;
-mod nodes;
 mod replays;
 
 use std::alloc::Global;
 use std::io::Print;
-use std::sync::Wait;
 use std::time::Clock;
 use std::{env, io};
 
-fn smoke<R: Print + Clock + Wait>(rt: &R, alloc: Global) -> io::Result<()> {
+fn smoke<R: Print + Clock>(rt: &R, alloc: Global) -> io::Result<()> {
     executors::run(rt, alloc, 20, false)?;
-    nodes::run(rt, alloc, 20, false)?;
     replays::run(rt, alloc, 20, false)?;
     clusters::run(rt, alloc, 100, 2, false)
 }
@@ -27,7 +24,6 @@ fn main(rt: HostRuntime) -> io::Result<()> {
         match word.as_str() {
             "smoke" => smoke(&rt, alloc)?,
             "executor" => executors::run(&rt, alloc, 100_000, true)?,
-            "node" => nodes::run(&rt, alloc, 100_000, true)?,
             "replays" => replays::run(&rt, alloc, 100_000, true)?,
             "cluster" => {
                 for jobs in [100, 10_000, 100_000] {

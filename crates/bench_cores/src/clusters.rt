@@ -18,14 +18,6 @@ const GROUP: &[u8] = b"addgroup \"demo\" manual 1 \"http://e1:9999/\"\n";
 const OFTEN: &[u8] =
     b"addjob 1 FIX_RATE \"10\" DO_NOTHING FIRST SERIAL_EXECUTION \"demo\" \"\" 0 0 0\n";
 
-/// Due at the same moments by the clock.
-const BY_CLOCK: &[u8] =
-    b"addjob 1 CRON \"5/10 * * * * ?\" DO_NOTHING FIRST SERIAL_EXECUTION \"demo\" \"\" 0 0 0\n";
-
-/// The same by the clock of a zone with rules.
-const IN_A_ZONE: &[u8] =
-    b"addjob 1 CRON \"5/10 * * * * ?\" DO_NOTHING FIRST SERIAL_EXECUTION \"demo\" \"\" 0 0 0 zone \"CET-1CEST,M3.5.0,M10.5.0/3\"\n";
-
 const RARELY: &[u8] =
     b"addjob 1 FIX_RATE \"2000000\" DO_NOTHING FIRST SERIAL_EXECUTION \"demo\" \"\" 0 0 0\n";
 
@@ -45,47 +37,20 @@ pub fn run(
     rounds: u32,
     timed: bool,
 ) -> io::Result<()> {
-    let Some(admin) = AdminNo::new(0) else {
+    let (Some(offset), Some(admin)) = (Offset::new(0), AdminNo::new(0)) else {
         return Ok(());
-    };
-    let mut cluster = new_cluster(alloc)?;
-    let running = fill(alloc, &mut cluster, admin, OFTEN, jobs)?;
-    println!(rt; "cluster: {running} jobs run, {DUE} of them every ten seconds")?;
-    fire(rt, &mut cluster, admin, rounds, timed)?;
-    walk(rt, &mut cluster, admin, rounds, timed)?;
-    edit(rt, &mut cluster, jobs, rounds.saturating_mul(100), timed)
-}
-
-/// Looks at jobs of a fixed rate, of a cron text, and of the same text in a zone, so many rounds of each,
-/// and prints counts, with events per second if timed.
-pub fn looks(rt: &(impl Print + Clock), alloc: Global, rounds: u32, timed: bool) -> io::Result<()> {
-    let Some(admin) = AdminNo::new(0) else {
-        return Ok(());
-    };
-    for (name, line) in [
-        ("a fixed rate", OFTEN),
-        ("a cron text", BY_CLOCK),
-        ("a cron text in a zone", IN_A_ZONE),
-    ] {
-        let mut cluster = new_cluster(alloc)?;
-        let running = fill(alloc, &mut cluster, admin, line, DUE)?;
-        println!(rt; "looks: {running} jobs of {name}")?;
-        fire(rt, &mut cluster, admin, rounds, timed)?;
-    }
-    Ok(())
-}
-
-/// A cluster without rows, whose clock is UTC.
-fn new_cluster(alloc: Global) -> io::Result<Cluster> {
-    let Some(offset) = Offset::new(0) else {
-        return Err(io::Error::from(io::ErrorKind::InvalidData));
     };
     let settings = Settings {
         offset,
         fast: 8,
         slow: 4,
     };
-    Cluster::new(alloc, settings).map_err(out_of_memory)
+    let mut cluster = Cluster::new(alloc, settings).map_err(out_of_memory)?;
+    let running = fill(alloc, &mut cluster, admin, jobs)?;
+    println!(rt; "cluster: {running} jobs run, {DUE} of them every ten seconds")?;
+    fire(rt, &mut cluster, admin, rounds, timed)?;
+    walk(rt, &mut cluster, admin, rounds, timed)?;
+    edit(rt, &mut cluster, jobs, rounds.saturating_mul(100), timed)
 }
 
 /// The event of a line.
@@ -131,16 +96,10 @@ fn none_acted() -> Acted {
     }
 }
 
-/// Starts the admin, and adds and starts so many jobs, of which the first are often due; answers how many run.
-fn fill(
-    alloc: Global,
-    cluster: &mut Cluster,
-    admin: AdminNo,
-    often: &[u8],
-    jobs: u32,
-) -> io::Result<u64> {
+/// Starts the admin, and adds and starts so many jobs; answers how many run.
+fn fill(alloc: Global, cluster: &mut Cluster, admin: AdminNo, jobs: u32) -> io::Result<u64> {
     let group = event_of(alloc, GROUP)?;
-    let often = event_of(alloc, often)?;
+    let often = event_of(alloc, OFTEN)?;
     let rarely = event_of(alloc, RARELY)?;
     act(cluster, &ClusterEvent::NodeStart(admin))?;
     act(cluster, &group)?;

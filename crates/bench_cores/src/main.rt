@@ -5,21 +5,17 @@
 
 mod clusters;
 mod executors;
-mod nodes;
 mod replays;
 
 use std::alloc::Global;
 use std::io::Print;
-use std::sync::Wait;
 use std::time::Clock;
 use std::{env, io};
 
-fn smoke<R: Print + Clock + Wait>(rt: &R, alloc: Global) -> io::Result<()> {
+fn smoke<R: Print + Clock>(rt: &R, alloc: Global) -> io::Result<()> {
     executors::run(rt, alloc, 20, false)?;
     replays::run(rt, alloc, 20, false)?;
-    clusters::run(rt, alloc, 100, 2, false)?;
-    clusters::looks(rt, alloc, 2, false)?;
-    nodes::run(rt, alloc, 20, 2, false)
+    clusters::run(rt, alloc, 100, 2, false)
 }
 
 fn main(rt: HostRuntime) -> io::Result<()> {
@@ -34,8 +30,6 @@ fn main(rt: HostRuntime) -> io::Result<()> {
                     clusters::run(&rt, alloc, jobs, 1_000, true)?;
                 }
             }
-            "looks" => clusters::looks(&rt, alloc, 10_000, true)?,
-            "node" => nodes::run(&rt, alloc, 5_000, 20, true)?,
             other => println!(rt; "no workload {other}")?,
         }
     }

@@ -1,0 +1,6 @@
+//! The port of a scheduling centre to what keeps its records, and a keeper in memory.
+#![tactic(auto)]
+
+pub mod keeper;
+
+pub use keeper::{KeepError, Keeper, Loaded};

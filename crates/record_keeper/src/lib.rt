@@ -2,5 +2,7 @@
 #![tactic(auto)]
 
 pub mod keeper;
+mod memory;
 
 pub use keeper::{KeepError, Keeper, Loaded};
+pub use memory::MemoryKeeper;

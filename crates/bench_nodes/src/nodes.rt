@@ -43,9 +43,16 @@ pub fn run(
         time = time.saturating_add(answered.time);
     }
     println!(rt; "run requests on kept connections: {requests} answered, {written} bytes written")?;
-    let nanos = time.as_nanos();
-    if timed && nanos > 0 {
-        let rate = u128::from(requests) * 1_000_000_000 / nanos;
+    if timed {
+        print_rate(rt, requests, time.as_nanos())?;
+    }
+    Ok(())
+}
+
+/// Prints how many requests there were in a second, where some time passed.
+fn print_rate(rt: &impl Print, requests: u64, nanos: u128) -> io::Result<()> {
+    if nanos > 0 {
+        let rate = requests as u128 * 1_000_000_000 / nanos;
         println!(rt; "  {rate} a second")?;
     }
     Ok(())

@@ -3,8 +3,6 @@
 //! same each time.
 #![tactic(auto)]
 
-mod clusters;
-mod executors;
 mod replays;
 
 use std::alloc::Global;
@@ -13,9 +11,7 @@ use std::time::Clock;
 use std::{env, io};
 
 fn smoke<R: Print + Clock>(rt: &R, alloc: Global) -> io::Result<()> {
-    executors::run(rt, alloc, 20, false)?;
-    replays::run(rt, alloc, 20, false)?;
-    clusters::run(rt, alloc, 100, 2, false)
+    replays::run(rt, alloc, 20, false)
 }
 
 fn main(rt: HostRuntime) -> io::Result<()> {
@@ -23,13 +19,7 @@ fn main(rt: HostRuntime) -> io::Result<()> {
     for word in env::args(&rt)?.skip(1) {
         match word.as_str() {
             "smoke" => smoke(&rt, alloc)?,
-            "executor" => executors::run(&rt, alloc, 100_000, true)?,
             "replays" => replays::run(&rt, alloc, 100_000, true)?,
-            "cluster" => {
-                for jobs in [100, 10_000, 100_000] {
-                    clusters::run(&rt, alloc, jobs, 1_000, true)?;
-                }
-            }
             other => println!(rt; "no workload {other}")?,
         }
     }

@@ -17,7 +17,7 @@ use serde_json::{Value, json};
 use std::alloc::{AllocError, Global};
 
 /// Ends the runs of a job at an executor.
-#[derive(Clone, Copy, Debug)]
+#[derive(Clone, Copy)]
 pub struct KillMessage {
     pub job_id: JobId,
 }

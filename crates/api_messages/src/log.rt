@@ -17,7 +17,7 @@ use serde_json::{Value, json};
 use std::alloc::{AllocError, Global};
 
 /// Asks an executor for the lines of a log.
-#[derive(Clone, Copy, Debug)]
+#[derive(Clone, Copy)]
 pub struct LogMessage {
     /// The first line, counted from 1.
     pub from_line_num: i32,

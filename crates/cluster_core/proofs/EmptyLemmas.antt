@@ -1,12 +1,12 @@
--- The cluster without rows.
+-- A cluster in which no admin runs, and the one without rows.
 use Rattle.std.proofs.lemmas.List.Elements.{All-nil}
 use Rattle.job_records.specs.Rules.{KeepsRules}
-use Rattle.std.proofs.Common.{◌≡◌, List, map, length, replicate, None, refl, sym, ap, subst, ◌∙◌, arith}
+use Rattle.std.proofs.Common.{◌≡◌, ℕ, List, map, length, replicate, None, refl, sym, ap, subst, ◌∙◌, arith}
 use Rattle.job_values.specs.declared.limits.TheConstants.{ADMINS}
 use Rattle.job_records.specs.Room.{RecordsState}
 use Rattle.job_records.specs.Tables.{no_rows}
 use Rattle.cluster_history.specs.declared.settings.Settings.{Settings}
-use Rattle.cluster_history.specs.History.{Begin, empty_opening}
+use Rattle.cluster_history.specs.History.{History, Begin, empty_opening}
 use Rattle.cluster_history.specs.Nodes.{admins}
 use Rattle.cluster_plan.specs.declared.node.Node.{Node}
 use Rattle.cluster_plan.specs.Nodes.{NodeKept, node_in, node_at, idle}
@@ -27,8 +27,25 @@ no-rows_keep = record {
   registry = record { rising = λ i j d before within. absurd (omega arith); named = All-nil _; few = omega arith; few_of_key = λ key. omega arith };
 }
 
+-- no admin runs
+abbrev pub AreIdle : List Node → Type 0
+AreIdle nodes = map node_in nodes ≡ replicate ADMINS idle
+
+-- so it is after a history in which none runs, no ticket waits and no log
+pub idle-after : (h : History) (nodes : List Node) → AreIdle nodes → ((admin : ℕ) → idle ≡ node_of h admin) → map node_in nodes ≡ map (node_of h) admins
+idle-after h nodes none each = none ∙ map-same (λ admin. idle) (node_of h) each admins
+
+-- with rows that keep the rules it is sound
+pub sound-idle : (settings : Settings) (records : RecordsState) (nodes : List Node) → KeepsRules records.kept → AreIdle nodes
+    → IsSound (kept_of (record { settings = settings; records = records; scan = None; nodes = nodes }))
+sound-idle settings records nodes rules none = record {
+  nodes = ap length none;
+  rules = rules;
+  limits = λ a. subst (λ (ns : List NodeKept). IsWithinLimits (node_at ns a).pools) (sym none) (limits-none (replicate ADMINS idle) a);
+}
+
 -- a new cluster stands for its opening
-pub stands-empty : (settings : Settings) (records : RecordsState) (nodes : List Node) → records.kept ≡ no_rows → map node_in nodes ≡ replicate ADMINS idle
+pub stands-empty : (settings : Settings) (records : RecordsState) (nodes : List Node) → records.kept ≡ no_rows → AreIdle nodes
     → Stands (kept_of (record { settings = settings; records = records; scan = None; nodes = nodes })) (Begin (empty_opening settings))
 stands-empty settings records nodes rows none = record {
   opens = record { rules = no-rows_keep; sent = All-nil _ };
@@ -38,15 +55,11 @@ stands-empty settings records nodes rows none = record {
     settings = refl;
     tables = rows;
     scan = refl;
-    nodes = none ∙ map-same (λ a. idle) (node_of (Begin (empty_opening settings))) (λ a. node-by _ _ _ _ _ _ refl (ring-none a) refl) admins;
+    nodes = idle-after (Begin (empty_opening settings)) nodes none (λ a. node-by _ _ _ _ _ _ refl (ring-none a) refl);
   };
 }
 
 -- and it is sound
-pub sound-empty : (settings : Settings) (records : RecordsState) (nodes : List Node) → records.kept ≡ no_rows → map node_in nodes ≡ replicate ADMINS idle
+pub sound-empty : (settings : Settings) (records : RecordsState) (nodes : List Node) → records.kept ≡ no_rows → AreIdle nodes
     → IsSound (kept_of (record { settings = settings; records = records; scan = None; nodes = nodes }))
-sound-empty settings records nodes rows none = record {
-  nodes = ap length none;
-  rules = subst KeepsRules (sym rows) no-rows_keep;
-  limits = λ a. subst (λ (ns : List NodeKept). IsWithinLimits (node_at ns a).pools) (sym none) (limits-none (replicate ADMINS idle) a);
-}
+sound-empty settings records nodes rows none = sound-idle settings records nodes (subst KeepsRules (sym rows) no-rows_keep) none

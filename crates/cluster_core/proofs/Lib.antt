@@ -3,3 +3,4 @@ pub mod KeptLemmas
 pub mod SoundLemmas
 pub mod EmptyLemmas
 pub mod CountLemmas
+pub mod ReopenLemmas

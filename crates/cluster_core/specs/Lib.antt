@@ -2,3 +2,4 @@ pub mod Kept
 pub mod Stands
 pub mod Room
 pub mod Plans
+pub mod Reopened

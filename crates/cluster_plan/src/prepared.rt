@@ -12,7 +12,7 @@ use std::marker::Model;
 use time_ring::Ticket;
 
 /// A log that enters the pools of an admin, and its job.
-#[derive(Clone, Copy, Debug, PartialEq, Eq)]
+#[derive(Clone, Copy, PartialEq, Eq)]
 pub struct Entering {
     pub log: LogId,
     pub job: JobId,

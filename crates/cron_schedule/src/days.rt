@@ -13,7 +13,7 @@ use jiff_core::civil::{Date, days_in_month};
 const FIRST_DAYS: u32 = 4_371_587;
 
 /// A day of the calendar from 1970 on.
-#[derive(Clone, Copy, Debug)]
+#[derive(Clone, Copy)]
 pub struct Day {
     /// How many days after 1970-01-01.
     pub number: u32,

@@ -2,7 +2,7 @@
 
 /// Every `step`-th value of the sequence that begins at `from` and goes up to `to`; where `from`
 /// is above `to`, it goes up to the field's greatest value and on from the least.
-#[derive(Clone, Copy, Debug, PartialEq, Eq)]
+#[derive(Clone, Copy, PartialEq, Eq)]
 pub struct Run {
     pub from: u16,
     pub to: u16,
@@ -10,7 +10,7 @@ pub struct Run {
 }
 
 /// What an item says of a value or a day.
-#[derive(Clone, Copy, Debug, PartialEq, Eq)]
+#[derive(Clone, Copy, PartialEq, Eq)]
 pub enum Item {
     /// The values of a run: `*`, `n`, `a-b` and each of them with `/s`.
     Values(Run),
@@ -30,7 +30,7 @@ pub enum Item {
 
 /// An item with its field: 1 second, 2 minute, 3 hour, 4 day of month, 5 month, 6 day of week,
 /// 7 year.
-#[derive(Clone, Copy, Debug, PartialEq, Eq)]
+#[derive(Clone, Copy, PartialEq, Eq)]
 pub struct FieldItem {
     pub field: u8,
     pub item: Item,

@@ -6,7 +6,7 @@ use job_values::NoMemory;
 use std::alloc::Global;
 
 /// Where an item begins: its field, counted from 1, and the place of its first byte, from 0.
-#[derive(Clone, Copy, Debug, PartialEq, Eq)]
+#[derive(Clone, Copy, PartialEq, Eq)]
 pub struct Piece {
     pub field: u8,
     pub start: u8,

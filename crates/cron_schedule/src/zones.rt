@@ -54,7 +54,7 @@ fn change_second(rule: &ChangeRule, offset: Offset, year: u32) -> i64
 }
 
 /// How many of a rule's changes are not above an instant, with the two about it.
-#[derive(Clone, Copy, Debug)]
+#[derive(Clone, Copy)]
 pub struct Passed {
     pub count: u32,
     /// The last of these changes, where there is one.

@@ -1,8 +1,8 @@
 //! Lines of the worked rows: their events, and what is said of their replies.
 use job_events::{ExecutorEvent, ExecutorRefusal, ExecutorReply, FinishCode};
 use job_values::{
-    BoundedText, CallbackItem, JobId, LogId, LogMoment, Moment, Run, RunnerNo, Seq, ShardNo, Text,
-    Timeout,
+    BoundedText, CallbackItem, JobId, LineNo, LogId, LogMoment, Moment, Run, RunnerNo, Seq,
+    ShardNo, Text, Timeout,
 };
 use std::alloc::Global;
 use std::process::Abort;
@@ -20,6 +20,8 @@ pub enum Line {
     Poll(u8, u64),
     Finish(u8, u64),
     Expire(u64),
+    /// The lines of a log, from a number on.
+    Read(u64, u32),
     Take,
     Ack,
     Fail(bool),
@@ -88,6 +90,10 @@ pub fn event(rt: &impl Abort, alloc: Global, line: &Line) -> Result<ExecutorEven
             text(rt, alloc, "")?,
         ),
         Line::Expire(ms) => ExecutorEvent::Expire(at(rt, *ms)),
+        Line::Read(of, first) => ExecutorEvent::ReadLines(
+            log(rt, *of),
+            LineNo::new(*first).expect(rt, "a line number"),
+        ),
         Line::Take => ExecutorEvent::BatchTake,
         Line::Ack => ExecutorEvent::BatchAck,
         Line::Fail(saved) => ExecutorEvent::BatchFail(*saved),
@@ -116,6 +122,7 @@ pub enum Said {
     Nothing,
     BatchOut,
     NoBatch,
+    NoLines,
 }
 
 fn are_said(items: &Seq<CallbackItem>, said: &[(u64, i32)]) -> bool {
@@ -134,6 +141,7 @@ fn is_refused(why: &ExecutorRefusal, said: &Said) -> bool {
         (ExecutorRefusal::Nothing, Said::Nothing) => true,
         (ExecutorRefusal::BatchOut, Said::BatchOut) => true,
         (ExecutorRefusal::NoBatch, Said::NoBatch) => true,
+        (ExecutorRefusal::NoLines, Said::NoLines) => true,
         _ => false,
     }
 }

@@ -81,6 +81,11 @@ fn discard_with_a_timeout(rt: HostRuntime) -> Result<(), Fail> {
             (Line::Poll(3, 105_002), Said::RunnerBusy(1)),
             (Line::Poll(4, 105_002), Said::Runs(2)),
             (Line::Finish(3, 106_000), Said::NoItem(1)),
+            (Line::Take, Said::Batch(&[(1, 502)])),
+            (Line::Take, Said::BatchOut),
+            (Line::Kill, Said::Killed(0)),
+            (Line::Finish(4, 107_000), Said::Item(2, 500)),
+            (Line::Read(9, 1), Said::NoLines),
         ],
     )?;
     Ok(())

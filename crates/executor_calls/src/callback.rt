@@ -17,7 +17,7 @@ use std::sync::Wait;
 use turn_lock::{Seat, Shared};
 
 /// What became of a callback.
-#[derive(Clone, Copy, Debug, PartialEq, Eq)]
+#[derive(Clone, Copy, PartialEq, Eq)]
 pub enum CallbackDone {
     /// No item waits.
     Idle,

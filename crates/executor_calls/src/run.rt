@@ -18,7 +18,7 @@ use std::sync::Wait;
 use turn_lock::{Seat, Shared};
 
 /// What became of a runner's turn.
-#[derive(Clone, Copy, Debug, PartialEq, Eq)]
+#[derive(Clone, Copy, PartialEq, Eq)]
 pub enum RunDone {
     /// No run is ready.
     Idle,

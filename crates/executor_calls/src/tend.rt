@@ -17,7 +17,7 @@ use turn_lock::{Seat, Shared};
 pub const LINES_KEPT: u64 = 2_592_000_000;
 
 /// What became of saved results and of the lines of old logs.
-#[derive(Clone, Copy, Debug, PartialEq, Eq)]
+#[derive(Clone, Copy, PartialEq, Eq)]
 pub struct TendDone {
     /// How many saved results wait again.
     pub reloaded: u64,

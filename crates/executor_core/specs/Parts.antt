@@ -11,7 +11,6 @@ use Rattle.executor_history.specs.Items.{killed_items, expired_items, finished_i
 use Rattle.executor_history.specs.Past.{Parts, parts_of, covered_items, taken_batch, left_waiting, put_id, is_among, released, known_run, add_line, is_trimmed}
 use Rattle.executor_history.specs.Replies.{reply_in, reply_of}
 use Rattle.run_queues.specs.Order.{QueuesView, HasRoom}
-use Rattle.executor_core.specs.declared.known_row.KnownRow.{KnownRow}
 use Rattle.executor_core.specs.declared.change.Change.{Change}
 use Rattle.executor_core.specs.declared.change.Change.TheVariants as change
 use Rattle.executor_core.specs.Rows.{LineRoom}
@@ -22,11 +21,11 @@ pub record Room : Type 0 where
   pub known : ℕ
   pub callbacks : ℕ
 
--- an executor: its parts, the queues and the rows of the known logs as they are kept, and its room
+-- an executor: its parts, the queues, how many more lines of each known log go in without memory, and its room
 pub record Whole : Type 0 where
   pub parts : Parts
   pub queues : QueuesView
-  pub rows : List KnownRow
+  pub lines : List (ℕ × ℕ)
   pub room : Room
 
 abbrev pub line_change : Option Working → List ℕ → Change
@@ -97,6 +96,11 @@ Follows p (change.Queue q cover items) = (p.runs < q.run.number) × (is_among q.
 Follows p (change.Poll runner at) = run_on runner p.on_runners ≡ None
 Follows p _ = Unit {0}
 
+-- an event that is ready to be committed: its reply and its change
+pub record Prepared : Type 0 where
+  pub reply : ExecutorReply
+  pub change : Change
+
 -- there is room for all that a change adds
 abbrev pub HasRoomFor : Whole → Change → Type 0
 HasRoomFor w (change.Queue q cover items) = HasRoom q.job w.queues × (1 ≤ w.room.held) × (1 ≤ w.room.known) × (length items ≤ w.room.callbacks)
@@ -104,7 +108,7 @@ HasRoomFor w (change.Kill job items) = length items ≤ w.room.callbacks
 HasRoomFor w (change.Poll runner at) = 1 ≤ w.queues.runners
 HasRoomFor w (change.Finish runner items) = length items ≤ w.room.callbacks
 HasRoomFor w (change.Expire at items) = length items ≤ w.room.callbacks
-HasRoomFor w (change.Line log text) = LineRoom log w.rows
+HasRoomFor w (change.Line log text) = LineRoom log w.lines
 HasRoomFor w _ = Unit {0}
 
 -- a change can be made now

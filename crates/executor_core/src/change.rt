@@ -1,8 +1,10 @@
 //! What an event changes, with all that it adds already made.
+ghost use Rattle.std.specs.Prelude.{◌≡◌};
 
 use executor_history::Queued;
 use job_events::ExecutorReply;
 use job_values::{CallbackItem, JobId, LogId, LogLine, Moment, RunnerNo, Seq};
+use std::marker::Model;
 
 /// The change of an accepted event.
 #[derive(Drop)]
@@ -32,9 +34,40 @@ pub enum Change {
     Reload,
 }
 
-/// An event that is ready to be committed: its reply, and its change.
+/// An event that is ready to be committed: its reply, and its change. Only `Executor::prepare` makes one.
 #[derive(Drop)]
 pub struct PreparedRun {
-    pub reply: ExecutorReply,
-    pub change: Change,
+    reply: ExecutorReply,
+    change: Change,
+}
+
+impl Model for PreparedRun {
+    ghost use Rattle.executor_core.specs.Parts.{Prepared};
+
+    ghost Value = { Prepared };
+
+    ghost view = { λ p. record { reply = p.reply; change = p.change } };
+}
+
+impl PreparedRun {
+    /// A reply, and the change that goes with it.
+    pub(crate) fn new(reply: ExecutorReply, change: Change) -> PreparedRun
+        ensures { result ≡ record { reply = reply; change = change } }
+    {
+        PreparedRun { reply, change }
+    }
+
+    /// The reply that the commit will give.
+    pub fn reply(&self) -> &ExecutorReply
+        ensures { result.now ≡ self.now.reply }
+    {
+        &self.reply
+    }
+
+    /// The reply and the change.
+    pub(crate) fn into_parts(self) -> (ExecutorReply, Change)
+        ensures { result ≡ (self.reply, self.change) }
+    {
+        (self.reply, self.change)
+    }
 }

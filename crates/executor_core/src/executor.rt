@@ -43,8 +43,6 @@ pub struct Executor {
 }
 
 impl Model for Executor {
-    ghost use Rattle.std.specs.Prelude.{◌-◌, map, vec_len, vec_capacity};
-    ghost use Rattle.executor_core.specs.Rows.{known_in};
     ghost use Rattle.executor_core.specs.Parts.{Whole};
 
     ghost Value = { Whole };
@@ -59,10 +57,10 @@ impl Model for Executor {
         batch = e.callbacks.batch;
         spooled = e.callbacks.spooled;
         held = e.held.ids;
-        known = map known_in e.known.rows;
+        known = e.known.known;
       };
       queues = e.queues;
-      rows = e.known.rows;
+      lines = e.known.lines;
       room = record {
         held = e.held.room;
         known = e.known.room;
@@ -344,7 +342,7 @@ impl Executor {
         let reply = self.reply_to(event)?;
         let change = self.change_to(event, &reply)?;
         self.make_room(&change)?;
-        Ok(PreparedRun { reply, change })
+        Ok(PreparedRun::new(reply, change))
     }
 
     /// Makes the change of the last prepare, and gives its reply. It takes no memory.
@@ -353,7 +351,7 @@ impl Executor {
         ensures parts { self.new.parts ≡ parts_after self.old.parts prepared.change }
         ensures reply { result ≡ prepared.reply }
     {
-        let PreparedRun { reply, change } = prepared;
+        let (reply, change) = prepared.into_parts();
         self.apply(change);
         reply
     }

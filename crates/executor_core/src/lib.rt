@@ -8,6 +8,8 @@ pub mod ids;
 pub mod items;
 pub mod known;
 pub mod known_row;
+mod known_rows;
+pub mod last_runs;
 pub mod replies;
 pub mod runs;
 

@@ -1,5 +1,5 @@
 //! The replies of the events, by what an executor keeps.
-ghost use Rattle.std.specs.Prelude.{◌≡◌, ◌+◌, ◌-◌, ◌≤◌, ◌++◌, [], ◌∷◌, length, drop, take, max, IfOk, map, ◌^◌, codes, Some, ◌<◌};
+ghost use Rattle.std.specs.Prelude.{◌≡◌, ◌+◌, ◌-◌, ◌≤◌, ◌++◌, [], ◌∷◌, length, drop, take, max, IfOk, ◌^◌, codes, Some, ◌<◌};
 ghost use Rattle.std.specs.List.{list_any};
 ghost use Rattle.std.specs.Str.{bytes_eq};
 ghost use Rattle.std.specs.Option.{option_copied};
@@ -9,7 +9,6 @@ ghost use Rattle.executor_history.specs.Runs.{is_cover, is_discard, is_busy, rea
 ghost use Rattle.executor_history.specs.Replies.{run_reply, idle_reply, poll_reply, given_reply, finish_reply, line_reply, lines_reply, lines_from, take_reply, batch_reply, is_ended, is_full, has_room};
 ghost use Rattle.executor_history.specs.Past.{known_of};
 ghost use Rattle.run_queues.specs.Order.{queued_in};
-ghost use Rattle.executor_core.specs.Rows.{known_in};
 
 use super::add::copy_first;
 use super::ids::Ids;
@@ -215,7 +214,7 @@ pub fn kept_answer(alloc: Global, callbacks: &Callbacks) -> Result<ExecutorReply
 
 /// The reply of a LogLine.
 pub fn line_answer(runner: RunnerNo, queues: &Queues, known: &KnownLogs) -> ExecutorReply
-    ensures { result ≡ line_reply (run_on runner queues.now.on_runners) (map known_in known.now.rows) }
+    ensures { result ≡ line_reply (run_on runner queues.now.on_runners) known.now.known }
 {
     match queues.on(runner) {
         None => ExecutorReply::Refused(ExecutorRefusal::NotRunning),
@@ -231,7 +230,7 @@ pub fn line_answer(runner: RunnerNo, queues: &Queues, known: &KnownLogs) -> Exec
 
 /// Whether a log may have one more line.
 fn takes_line(known: &KnownLogs, log: LogId) -> bool
-    ensures { result ≡ has_room (known_of log (map known_in known.now.rows)) }
+    ensures { result ≡ has_room (known_of log known.now.known) }
 {
     match known.find(log) {
         None => true,
@@ -265,7 +264,7 @@ pub fn lines_answer(
     queues: &Queues,
     known: &KnownLogs,
 ) -> Result<ExecutorReply, NoMemory>
-    ensures { IfOk result (λ r. r ≡ lines_reply (max first 1) (is_ended log queues.now.runs queues.now.on_runners) (known_of log (map known_in known.now.rows))) }
+    ensures { IfOk result (λ r. r ≡ lines_reply (max first 1) (is_ended log queues.now.runs queues.now.on_runners) (known_of log known.now.known)) }
 {
     let from = u64::from(first.get()).max(1);
     match known.find(log) {

@@ -1,5 +1,5 @@
 -- The reply of an event: the first refusal that applies, else the answer.
-use Rattle.std.specs.Prelude.{ℕ, ◌+◌, ◌-◌, Bool, true, false, not, ◌&&◌, ◌||◌, ◌==◌, nat_lt, nat_le, codes, if◌then◌else◌, List, [], ◌∷◌, ◌++◌, Option, None, Some, take, drop, length, max, count_by}
+use Rattle.std.specs.Prelude.{ℕ, ◌+◌, ◌-◌, ◌^◌, Bool, true, false, not, ◌&&◌, ◌||◌, ◌==◌, nat_lt, nat_le, codes, if◌then◌else◌, List, [], ◌∷◌, ◌++◌, Option, None, Some, take, drop, length, max, count_by}
 use Rattle.std.specs.List.{list_any}
 use Rattle.std.specs.Str.{bytes_eq}
 use Rattle.job_values.specs.declared.limits.TheConstants.{FAILURE, HELD_IDS, LOG_LINES, LINES_READ}
@@ -25,7 +25,7 @@ queued_of job queued = count_by (is_queued_of job) queued
 
 -- no more runs are taken: as many ids are held as may be, or the number of runs is at its end
 abbrev pub is_full : ℕ → List ℕ → Bool
-is_full runs ids = nat_le HELD_IDS (length ids) || runs == 18446744073709551615
+is_full runs ids = nat_le HELD_IDS (length ids) || runs == 2 ^ 64 - 1
 
 abbrev pub idle_reply : Bool → ExecutorReply
 idle_reply true = reply.Refused refusal.Running

@@ -11,7 +11,7 @@ pub struct Queued {
 }
 
 /// A run that is on a runner.
-#[derive(Clone, Copy, Debug)]
+#[derive(Clone, Copy)]
 pub struct Working {
     pub job: JobId,
     /// Its place in order of acceptance.

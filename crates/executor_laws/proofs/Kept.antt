@@ -82,10 +82,10 @@ held_is log (After h event.BatchAck r) = among-released log (batch h) (held h) �
 held_is log (After h e r) = held_is log h
 
 -- ---- known logs rise
-abbrev Above : ℕ → List Known → Type 0
+abbrev pub Above : ℕ → List Known → Type 0
 Above n ks = Each (λ (k : Known). n < k.log) ks
 
-abbrev Rises : List Known → Type 0
+abbrev pub Rises : List Known → Type 0
 Rises [] = Unit {0}
 Rises (k ∷ ks) = Above k.log ks × Rises ks
 
@@ -106,7 +106,7 @@ more_of n m e f = grind (arith, nat_tests)
 above_lower : (n m : ℕ) (ks : List Known) → n < m → Above m ks → Above n ks
 above_lower n m ks lt a = each-weaker (λ (k : Known). m < k.log) (λ (k : Known). n < k.log) (λ k up. omega (arith, lt, up)) ks a
 
-run_rises : (log moment : ℕ) (ks : List Known) → Rises ks → Rises (known_run log moment ks)
+pub run_rises : (log moment : ℕ) (ks : List Known) → Rises ks → Rises (known_run log moment ks)
 run_rises log moment [] rises = (tt, tt)
 run_rises log moment (k ∷ ks) rises = by_test (log == k.log) refl (nat_lt log k.log) refl (run_rises log moment ks rises.1) where
   by_test : (b : Bool) → (log == k.log) ≡ b → (c : Bool) → nat_lt log k.log ≡ c → Rises (known_run log moment ks) → Rises (known_run log moment (k ∷ ks))
@@ -121,7 +121,7 @@ line_below n log text (k ∷ ks) a = by_test (log == k.log) refl (line_below n l
   by_test true e rest = rw e a
   by_test false e rest = rw e (a.0, rest)
 
-line_rises : (log : ℕ) (text : List ℕ) (ks : List Known) → Rises ks → Rises (add_line log text ks)
+pub line_rises : (log : ℕ) (text : List ℕ) (ks : List Known) → Rises ks → Rises (add_line log text ks)
 line_rises log text [] rises = tt
 line_rises log text (k ∷ ks) rises = by_test (log == k.log) refl (line_rises log text ks rises.1) where
   by_test : (b : Bool) → (log == k.log) ≡ b → Rises (add_line log text ks) → Rises (add_line log text (k ∷ ks))
@@ -162,7 +162,7 @@ not_above log (k ∷ ks) a = rw (differs log k.log a.0) (not_above log ks a.1) w
   differs : (n m : ℕ) → n < m → (n == m) ≡ false
   differs n m lt = grind (arith, nat_tests)
 
-abbrev run_known : ℕ → ℕ → Option Known → Option Known
+abbrev pub run_known : ℕ → ℕ → Option Known → Option Known
 run_known log moment o = Some (record { log = log; moment = moment; lines = lines_in o })
 
 own_run : (log moment : ℕ) (ks : List Known) → Rises ks → known_of log (known_run log moment ks) ≡ run_known log moment (known_of log ks)
@@ -183,11 +183,11 @@ other_run log l moment (k ∷ ks) apart = by_test (l == k.log) refl (nat_lt l k.
   by_test false e true f rest = rw (e, f) (rw apart refl)
   by_test false e false f rest = rw (e, f) (ap (λ (o : Option Known). if log == k.log then Some k else o) rest)
 
-run_case : (log l moment : ℕ) (ks : List Known) (b : Bool) → (log == l) ≡ b → Rises ks → known_of log (known_run l moment ks) ≡ (if log == l then run_known log moment (known_of log ks) else known_of log ks)
+pub run_case : (log l moment : ℕ) (ks : List Known) (b : Bool) → (log == l) ≡ b → Rises ks → known_of log (known_run l moment ks) ≡ (if log == l then run_known log moment (known_of log ks) else known_of log ks)
 run_case log l moment ks true e rises = let one = equal_of log l e in rw e (rw (← one) (own_run log moment ks rises))
 run_case log l moment ks false e rises = rw e (other_run log l moment ks e)
 
-line_case : (log l : ℕ) (text : List ℕ) (ks : List Known) → known_of log (add_line l text ks) ≡ (if log == l then with_line text (known_of log ks) else known_of log ks)
+pub line_case : (log l : ℕ) (text : List ℕ) (ks : List Known) → known_of log (add_line l text ks) ≡ (if log == l then with_line text (known_of log ks) else known_of log ks)
 line_case log l text [] = by_test (log == l) None where
   by_test : (b : Bool) (o : Option Known) → o ≡ (if b then o else o)
   by_test true o = refl

@@ -23,7 +23,7 @@ use std::sync::Wait;
 use turn_lock::{Seat, Shared};
 
 /// Why a connection ended.
-#[derive(Clone, Copy, Debug, PartialEq, Eq)]
+#[derive(Clone, Copy, PartialEq, Eq)]
 pub enum ExecutorEnd {
     /// The link ended before a next request, or its last request closed it.
     Closed,
@@ -32,7 +32,7 @@ pub enum ExecutorEnd {
 }
 
 /// What became of a connection.
-#[derive(Clone, Copy, Debug, PartialEq, Eq)]
+#[derive(Clone, Copy, PartialEq, Eq)]
 pub struct ExecutorServed {
     /// How many whole requests were read, up to 2^64 - 1.
     pub requests: u64,

@@ -14,7 +14,7 @@ pub const MOST_LINE: usize = 16_384;
 pub const MOST_FIELDS: usize = 64;
 
 /// How a body is read.
-#[derive(Clone, Copy, Debug, PartialEq, Eq)]
+#[derive(Clone, Copy, PartialEq, Eq)]
 pub enum BodyPlan {
     /// There is none.
     Empty,

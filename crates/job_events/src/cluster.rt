@@ -97,7 +97,7 @@ pub enum ClusterReply {
 }
 
 /// Why an event was refused.
-#[derive(Clone, Copy, Debug, PartialEq, Eq)]
+#[derive(Clone, Copy, PartialEq, Eq)]
 pub enum ClusterRefusal {
     /// The admin runs.
     NodeRunning(AdminNo),

@@ -6,7 +6,7 @@ use job_values::{
 };
 
 /// What a handler's run ended with.
-#[derive(Clone, Copy, Debug, PartialEq, Eq)]
+#[derive(Clone, Copy, PartialEq, Eq)]
 pub enum FinishCode {
     /// 200.
     Success,
@@ -104,7 +104,7 @@ pub enum ExecutorReply {
 }
 
 /// Why an event was refused.
-#[derive(Clone, Copy, Debug, PartialEq, Eq)]
+#[derive(Clone, Copy, PartialEq, Eq)]
 pub enum ExecutorRefusal {
     /// The log id is held.
     Held(LogId),

@@ -3,7 +3,7 @@
 use job_values::{Edition, JobId, LogId, Moment, PoolAnswer, Seq};
 
 /// A log that a firing opened, and the pool that it was put in.
-#[derive(Clone, Copy, Debug, PartialEq, Eq)]
+#[derive(Clone, Copy, PartialEq, Eq)]
 pub struct Opened {
     pub log: LogId,
     pub pool: PoolAnswer,

@@ -1,7 +1,7 @@
 //! What is counted of a history.
 
 /// What is counted of a history. Each count stays at its greatest value once it is there.
-#[derive(Clone, Copy, Debug, PartialEq, Eq)]
+#[derive(Clone, Copy, PartialEq, Eq)]
 pub struct Report {
     /// Lines taken.
     pub entries: u64,

@@ -18,7 +18,7 @@ pub struct QueuedRun {
 }
 
 /// A run that is on a runner.
-#[derive(Clone, Copy, Debug)]
+#[derive(Clone, Copy)]
 pub struct RunnerRun {
     pub runner: RunnerNo,
     pub log: LogId,

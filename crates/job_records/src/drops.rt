@@ -1,7 +1,7 @@
 //! Which list a drop drops from.
 
 /// The list that a drop drops from.
-#[derive(Clone, Copy, Debug, PartialEq, Eq)]
+#[derive(Clone, Copy, PartialEq, Eq)]
 pub(crate) enum Dropped {
     Job,
     Log,

@@ -9,7 +9,7 @@ pub struct ScheduleFault {
 }
 
 /// The first fault of a zone's text: the place of a byte, counted from 1.
-#[derive(Clone, Copy, Debug, PartialEq, Eq)]
+#[derive(Clone, Copy, PartialEq, Eq)]
 pub struct ZoneFault {
     /// One past the longest prefix of the text that begins a zone.
     pub place: u32,

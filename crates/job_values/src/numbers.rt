@@ -12,7 +12,7 @@ use std::marker::Model;
 pub type Edition = u64;
 
 /// Milliseconds since 1970-01-01T00:00:00Z, from 0 to `LAST_MOMENT`.
-#[derive(Clone, Copy, Debug, PartialEq, Eq, PartialOrd, Ord)]
+#[derive(Clone, Copy, PartialEq, Eq, PartialOrd, Ord)]
 pub struct Moment {
     ms: u64,
 }
@@ -49,7 +49,7 @@ impl Moment {
 }
 
 /// The id of a group, from 1 to `LAST_JOB_ID`.
-#[derive(Clone, Copy, Debug, PartialEq, Eq, PartialOrd, Ord)]
+#[derive(Clone, Copy, PartialEq, Eq, PartialOrd, Ord)]
 pub struct GroupId {
     number: u32,
 }
@@ -87,7 +87,7 @@ impl GroupId {
 }
 
 /// The id of a job, from 1 to `LAST_JOB_ID`.
-#[derive(Clone, Copy, Debug, PartialEq, Eq, PartialOrd, Ord)]
+#[derive(Clone, Copy, PartialEq, Eq, PartialOrd, Ord)]
 pub struct JobId {
     number: u32,
 }
@@ -125,7 +125,7 @@ impl JobId {
 }
 
 /// The id of a log, from 1 to `LAST_LOG_ID`.
-#[derive(Clone, Copy, Debug, PartialEq, Eq, PartialOrd, Ord)]
+#[derive(Clone, Copy, PartialEq, Eq, PartialOrd, Ord)]
 pub struct LogId {
     number: u64,
 }
@@ -163,7 +163,7 @@ impl LogId {
 }
 
 /// The number of an admin node, from 0 to `LAST_ADMIN`.
-#[derive(Clone, Copy, Debug, PartialEq, Eq, PartialOrd, Ord)]
+#[derive(Clone, Copy, PartialEq, Eq, PartialOrd, Ord)]
 pub struct AdminNo {
     number: u8,
 }
@@ -200,7 +200,7 @@ impl AdminNo {
 }
 
 /// The number of an executor, from 0 to `LAST_RUNNER`.
-#[derive(Clone, Copy, Debug, PartialEq, Eq, PartialOrd, Ord)]
+#[derive(Clone, Copy, PartialEq, Eq, PartialOrd, Ord)]
 pub struct ExecutorNo {
     number: u8,
 }
@@ -237,7 +237,7 @@ impl ExecutorNo {
 }
 
 /// The number of a runner of an executor, from 0 to `LAST_RUNNER`.
-#[derive(Clone, Copy, Debug, PartialEq, Eq, PartialOrd, Ord)]
+#[derive(Clone, Copy, PartialEq, Eq, PartialOrd, Ord)]
 pub struct RunnerNo {
     number: u8,
 }
@@ -274,7 +274,7 @@ impl RunnerNo {
 }
 
 /// How long a run may last, in seconds, from 0 for no end to `LAST_SECONDS`.
-#[derive(Clone, Copy, Debug, PartialEq, Eq, PartialOrd, Ord)]
+#[derive(Clone, Copy, PartialEq, Eq, PartialOrd, Ord)]
 pub struct Timeout {
     seconds: u32,
 }
@@ -311,7 +311,7 @@ impl Timeout {
 }
 
 /// How often a failed run is tried again, from 0 to `LAST_RETRIES`.
-#[derive(Clone, Copy, Debug, PartialEq, Eq, PartialOrd, Ord)]
+#[derive(Clone, Copy, PartialEq, Eq, PartialOrd, Ord)]
 pub struct Retries {
     number: u32,
 }
@@ -348,7 +348,7 @@ impl Retries {
 }
 
 /// The index of a shard, or the number of shards, from 0 to `LAST_SHARD`.
-#[derive(Clone, Copy, Debug, PartialEq, Eq, PartialOrd, Ord)]
+#[derive(Clone, Copy, PartialEq, Eq, PartialOrd, Ord)]
 pub struct ShardNo {
     number: u32,
 }
@@ -385,7 +385,7 @@ impl ShardNo {
 }
 
 /// The moment of a log as an executor is told it, in milliseconds, from 0 to `LAST_LOG_MOMENT`.
-#[derive(Clone, Copy, Debug, PartialEq, Eq, PartialOrd, Ord)]
+#[derive(Clone, Copy, PartialEq, Eq, PartialOrd, Ord)]
 pub struct LogMoment {
     ms: u64,
 }
@@ -422,7 +422,7 @@ impl LogMoment {
 }
 
 /// The number of a run request, or of a batch, from 0 to `LAST_REQUEST`.
-#[derive(Clone, Copy, Debug, PartialEq, Eq, PartialOrd, Ord)]
+#[derive(Clone, Copy, PartialEq, Eq, PartialOrd, Ord)]
 pub struct RequestNo {
     number: u64,
 }
@@ -459,7 +459,7 @@ impl RequestNo {
 }
 
 /// The number of a line of a log, from 0 to `LAST_LINE`.
-#[derive(Clone, Copy, Debug, PartialEq, Eq, PartialOrd, Ord)]
+#[derive(Clone, Copy, PartialEq, Eq, PartialOrd, Ord)]
 pub struct LineNo {
     number: u32,
 }
@@ -496,7 +496,7 @@ impl LineNo {
 }
 
 /// How far the civil clock is ahead of UTC, in seconds, from `-LAST_OFFSET` to `LAST_OFFSET`.
-#[derive(Clone, Copy, Debug, PartialEq, Eq, PartialOrd, Ord)]
+#[derive(Clone, Copy, PartialEq, Eq, PartialOrd, Ord)]
 pub struct Offset {
     seconds: i32,
 }

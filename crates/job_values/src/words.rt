@@ -12,7 +12,7 @@ ghost use Rattle.job_values.specs.declared.words.PoolAnswer.{PoolAnswer};
 ghost use Rattle.job_values.specs.Words.{schedule_kind_text, misfire_text, route_text, block_text, trigger_kind_text, pool_kind_text, group_kind_text, case_text, pool_answer_text};
 
 /// How a job's due times are given.
-#[derive(Clone, Copy, Debug, PartialEq, Eq)]
+#[derive(Clone, Copy, PartialEq, Eq)]
 pub enum ScheduleKind {
     /// No due time: the job fires by hand, as a child or as a retry.
     Never,
@@ -49,7 +49,7 @@ impl ScheduleKind {
 }
 
 /// What a scan does with a due time that lies more than the misfire window back.
-#[derive(Clone, Copy, Debug, PartialEq, Eq)]
+#[derive(Clone, Copy, PartialEq, Eq)]
 pub enum Misfire {
     DoNothing,
     FireOnceNow,
@@ -80,7 +80,7 @@ impl Misfire {
 }
 
 /// How the address of a run is chosen.
-#[derive(Clone, Copy, Debug, PartialEq, Eq)]
+#[derive(Clone, Copy, PartialEq, Eq)]
 pub enum Route {
     First,
     Last,
@@ -135,7 +135,7 @@ impl Route {
 }
 
 /// What an executor does with a run of a job that runs or has a queue.
-#[derive(Clone, Copy, Debug, PartialEq, Eq)]
+#[derive(Clone, Copy, PartialEq, Eq)]
 pub enum Block {
     SerialExecution,
     DiscardLater,
@@ -169,7 +169,7 @@ impl Block {
 }
 
 /// Why a log was opened.
-#[derive(Clone, Copy, Debug, PartialEq, Eq)]
+#[derive(Clone, Copy, PartialEq, Eq)]
 pub enum TriggerKind {
     /// A late look, or a ticket of the ring.
     Cron,
@@ -212,7 +212,7 @@ impl TriggerKind {
 }
 
 /// The two pools of an admin.
-#[derive(Clone, Copy, Debug, PartialEq, Eq)]
+#[derive(Clone, Copy, PartialEq, Eq)]
 pub enum PoolKind {
     Fast,
     Slow,
@@ -243,7 +243,7 @@ impl PoolKind {
 }
 
 /// Who writes a group's address list.
-#[derive(Clone, Copy, Debug, PartialEq, Eq)]
+#[derive(Clone, Copy, PartialEq, Eq)]
 pub enum GroupKind {
     /// The sweep, from the registry.
     Auto,

@@ -6,7 +6,7 @@ ghost use Rattle.line_grammar.specs.Lists.{number_before};
 use crate::ends::End;
 
 /// A number in decimal digits, within bounds, and the byte behind it.
-#[derive(Clone, Copy, Debug, PartialEq, Eq)]
+#[derive(Clone, Copy, PartialEq, Eq)]
 pub struct NumberForm {
     /// The least number.
     pub least: u64,
@@ -19,7 +19,7 @@ pub struct NumberForm {
 }
 
 /// How far a number was read.
-#[derive(Clone, Copy, Debug, PartialEq, Eq)]
+#[derive(Clone, Copy, PartialEq, Eq)]
 pub enum NumberStage {
     /// No digit yet.
     First,
@@ -30,7 +30,7 @@ pub enum NumberStage {
 }
 
 /// What the next byte of a number does.
-#[derive(Clone, Copy, Debug, PartialEq, Eq)]
+#[derive(Clone, Copy, PartialEq, Eq)]
 pub enum NumberMove {
     /// One more digit.
     More(NumberStage),

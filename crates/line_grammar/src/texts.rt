@@ -6,7 +6,7 @@ use crate::ends::End;
 
 /// A text between quotes: characters in UTF-8, where `"` is written `\"`, `\` is `\\` and each
 /// character below U+0020 is `\` and two lower-case hexadecimal digits.
-#[derive(Clone, Copy, Debug, PartialEq, Eq)]
+#[derive(Clone, Copy, PartialEq, Eq)]
 pub struct TextForm {
     /// The least number of bytes.
     pub least: usize,
@@ -17,7 +17,7 @@ pub struct TextForm {
 }
 
 /// What is still to come of a character: bounds of the next byte, and how many bytes follow it.
-#[derive(Clone, Copy, Debug, PartialEq, Eq)]
+#[derive(Clone, Copy, PartialEq, Eq)]
 pub struct Tail {
     pub low: u8,
     pub high: u8,
@@ -25,7 +25,7 @@ pub struct Tail {
 }
 
 /// How far a text was read.
-#[derive(Clone, Copy, Debug, PartialEq, Eq)]
+#[derive(Clone, Copy, PartialEq, Eq)]
 pub enum TextStage {
     /// Before the first quote.
     Opening,
@@ -42,7 +42,7 @@ pub enum TextStage {
 }
 
 /// What the next byte of a text does.
-#[derive(Clone, Copy, Debug, PartialEq, Eq)]
+#[derive(Clone, Copy, PartialEq, Eq)]
 pub enum TextMove {
     /// It says no byte of the text.
     Stay(TextStage),

@@ -88,7 +88,7 @@ pub fn shard_count(records: &Records, spec: &JobSpec) -> u32
 }
 
 /// One of the shards of a firing.
-#[derive(Clone, Copy, Debug)]
+#[derive(Clone, Copy)]
 pub struct Shard {
     pub index: ShardNo,
     pub total: ShardNo,

@@ -8,7 +8,7 @@ use job_values::{Case, Misfire, Moment};
 use zone_texts::Zone;
 
 /// What a look at a due time finds, and what it does.
-#[derive(Clone, Copy, Debug, PartialEq, Eq)]
+#[derive(Clone, Copy, PartialEq, Eq)]
 pub struct Decision {
     pub case: Case,
     /// Whether the job fires at once.

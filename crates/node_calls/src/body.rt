@@ -5,7 +5,7 @@ ghost use Rattle.node_calls.specs.Bodies.{fixed_body, body_bytes};
 use job_values::Seq;
 
 /// The answers whose text is fixed.
-#[derive(Clone, Copy, Debug, PartialEq, Eq)]
+#[derive(Clone, Copy, PartialEq, Eq)]
 pub enum Fixed {
     /// The call is done.
     Done,

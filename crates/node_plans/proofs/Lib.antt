@@ -2,3 +2,4 @@ pub mod NodeLemmas
 pub mod ShownLemmas
 pub mod EndingLemmas
 pub mod StopLemmas
+pub mod ReopenLemmas

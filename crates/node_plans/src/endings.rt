@@ -1,16 +1,19 @@
-//! What ends with the stop of admins: the logs that were not sent, and the tickets.
-ghost use Rattle.std.specs.Prelude.{◌≡◌, ℕ, ◌≤◌, ◌++◌, length, map, min, IfOk, OnOk};
+//! What ends with the stop of admins, and with an opening: the logs that were not sent, and the tickets.
+ghost use Rattle.std.specs.Prelude.{◌≡◌, ℕ, ◌≤◌, [], ◌∷◌, ◌++◌, length, map, min, IfOk, OnOk};
 ghost use Rattle.std.specs.List.{concat};
 ghost use Rattle.job_values.specs.declared.limits.TheConstants.{ADMINS};
-ghost use Rattle.cluster_history.specs.Settling.{ended_log, log_with};
+ghost use Rattle.job_records.specs.declared.change.Change.TheVariants.{PutLog};
+ghost use Rattle.job_records.specs.Changes.{applied_all, AreAllowed};
+ghost use Rattle.job_records.specs.Rules.{KeepsRules};
+ghost use Rattle.cluster_history.specs.Settling.{is_unsent, ended_log, log_with};
 ghost use Rattle.cluster_plan.specs.Nodes.{node_in, node_at};
 ghost use Rattle.cluster_plan.specs.Kept.{logs_in, IsWithinLimits};
-ghost use Rattle.node_plans.specs.Endings.{ending_of, endings, lost_of, queued_of};
+ghost use Rattle.node_plans.specs.Endings.{ending_of, endings, unsent_endings, unsent_ended, lost_of, queued_of};
 
 use cluster_plan::Node;
 use job_records::{Change, Log, Records};
 use job_values::limits::FAILURE;
-use job_values::{LogId, NoMemory, PoolKind};
+use job_values::{LogId, NoMemory, PoolKind, Seq};
 use std::alloc::Global;
 use std::collections::VecDeque;
 use trigger_pool::Pools;
@@ -23,6 +26,16 @@ fn ended(mut log: Log) -> Log
     log
 }
 
+/// Ends the log of a row.
+fn end_row(alloc: Global, row: &Log, changes: &mut Vec<Change>) -> Result<(), NoMemory>
+    ensures { OnOk result (changes.new.items ≡ changes.old.items ++ PutLog (ended_log row.now) ∷ []) }
+{
+    let row = row.copy(alloc)?;
+    changes
+        .push(Change::PutLog(ended(row)))
+        .map_err(|_| NoMemory)
+}
+
 /// Ends a log, if its row is there.
 fn end_log(
     alloc: Global,
@@ -32,13 +45,10 @@ fn end_log(
 ) -> Result<(), NoMemory>
     ensures { OnOk result (changes.new.items ≡ changes.old.items ++ ending_of (log_with id records.now.kept.logs)) }
 {
-    let Some(row) = records.log(id) else {
-        return Ok(());
-    };
-    let row = row.copy(alloc)?;
-    changes
-        .push(Change::PutLog(ended(row)))
-        .map_err(|_| NoMemory)
+    match records.log(id) {
+        Some(row) => end_row(alloc, row, changes),
+        None => Ok(()),
+    }
 }
 
 /// Ends the logs of a queue.
@@ -83,6 +93,37 @@ pub fn end_all(
         end_pools(alloc, records, &node.pools, changes)?;
     }
     Ok(())
+}
+
+/// Whether a log has no trigger code.
+fn is_unsent(log: &Log) -> bool
+    ensures { result ≡ is_unsent log.now }
+{
+    log.trigger_code == 0
+}
+
+/// The ends of the logs that have no trigger code, in one pass.
+fn unsent_ends(alloc: Global, records: &Records) -> Result<Vec<Change>, NoMemory>
+    ensures { IfOk result (λ changes. changes.items ≡ unsent_endings records.now.kept.logs) }
+{
+    let mut changes = Vec::new(alloc);
+    for log in records.logs() {
+        if is_unsent(log) {
+            end_row(alloc, log, &mut changes)?;
+        }
+    }
+    Ok(changes)
+}
+
+/// The changes that end each log that has no trigger code, in order of their ids.
+pub fn end_unsent(alloc: Global, records: &Records) -> Result<Seq<Change>, NoMemory>
+    ensures changes { IfOk result (λ changes. changes ≡ unsent_endings records.now.kept.logs) }
+    ensures allowed { IfOk result (AreAllowed records.now.kept) }
+    ensures gives { IfOk result (λ changes. applied_all records.now.kept changes ≡ unsent_ended records.now.kept) }
+    ensures rules { KeepsRules (unsent_ended records.now.kept) }
+{
+    let _ = records.last_ids();
+    Ok(Seq::of(unsent_ends(alloc, records)?))
 }
 
 /// How many logs the pools of an admin have.

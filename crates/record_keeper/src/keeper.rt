@@ -8,7 +8,7 @@ use job_records::{Change, Records};
 use job_values::{Seq, Text};
 
 /// Why a call of a keeper did not come about.
-#[derive(Clone, Copy, Debug, PartialEq, Eq)]
+#[derive(Clone, Copy, PartialEq, Eq)]
 pub enum KeepError {
     /// The outside failed. The count of faults rose in this call.
     Failed,

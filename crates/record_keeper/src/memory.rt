@@ -1,9 +1,11 @@
 //! A keeper in memory, with a list of the calls that are to fail.
-ghost use Rattle.std.specs.Prelude.{◌≡◌, [], ◌++◌, Some, None, is_err, is_ok, IfOk, OnOk, OnErr, if◌then◌else◌};
+ghost use Rattle.std.specs.Prelude.{◌≡◌, ◌↔◌, [], ◌++◌, Some, None, is_err, is_ok, IfOk, OnOk, OnErr, if◌then◌else◌};
 ghost use Rattle.outside.specs.Causes.{HasCause, faults_after};
 ghost use Rattle.outside.specs.Streams.{is_to_fail};
 ghost use Rattle.job_records.specs.Changes.{AreAllowed, applied_all};
 ghost use Rattle.record_keeper.specs.Keeping.{HasKeepCause, AreOf, version_answered};
+ghost use Rattle.record_keeper.specs.declared.keeper.KeepError.TheVariants as keep;
+ghost use Rattle.record_keeper.specs.declared.keeper.Loaded.TheVariants as loaded;
 ghost use Rattle.record_keeper.specs.Memory.{tables_of, seen_memory, is_failed, after_call, after_save};
 
 use super::keeper::{KeepError, Keeper, Loaded};
@@ -138,9 +140,9 @@ impl Keeper for MemoryKeeper {
     ghost seen = { seen_memory };
 
     fn attach(&mut self, _file: Option<&Text>) -> Result<(), KeepError>
-        ensures fails { is_err result ≡ is_to_fail self.old.calls self.old.failing }
+        ensures fails { result ≡ (if is_to_fail self.old.calls self.old.failing then Err keep.Failed else Ok tt) }
         ensures after { self.new ≡ after_call self.old result }
-        ensures tables { Some (tables_of self.new) ≡ Some (tables_of self.old) }
+        ensures tables { (seen_memory self.new).tables ≡ (seen_memory self.old).tables }
         ensures version { (seen_memory self.new).version ≡ None }
         ensures cause { HasKeepCause (seen_memory self.old) (seen_memory self.new) result }
     {
@@ -172,6 +174,7 @@ impl Keeper for MemoryKeeper {
         ensures fails { is_failed result ≡ is_to_fail self.old.calls self.old.failing }
         ensures after { self.new ≡ after_call self.old result }
         ensures told { IfOk result (AreOf (tables_of self.old)) }
+        ensures empty { IfOk result (λ l. (l ≡ loaded.Empty) ↔ (self.old.saved ≡ [])) }
         ensures tables { (seen_memory self.new).tables ≡ (seen_memory self.old).tables }
         ensures version { (seen_memory self.new).version ≡ version_answered result }
         ensures cause { HasKeepCause (seen_memory self.old) (seen_memory self.new) result }

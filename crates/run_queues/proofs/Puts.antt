@@ -1,11 +1,13 @@
 -- A row with a new key, put by its key, stands before those with higher keys.
-use Rattle.std.proofs.Common.{◌≡◌, ℕ, ◌+◌, ◌<◌, Bool, true, false, ◌==◌, nat_lt, List, [], ◌∷◌, None, find, refl, sym, ap, ◌∙◌, arith}
+use Rattle.std.proofs.Common.{◌≡◌, ℕ, ◌+◌, ◌<◌, zero, suc, Bool, true, false, ◌==◌, nat_lt, List, [], ◌∷◌, None, Err, find, length, get_or, refl, sym, ap, ◌∙◌, arith}
 use Rattle.std.proofs.lemmas.Bool.Decides.{nat_tests}
-use Rattle.std.specs.List.{list_any}
-use Rattle.std.specs.Ordering.{match_ordering}
+use Rattle.std.specs.List.{list_any, insert}
+use Rattle.std.specs.declared.cmp.Ordering.TheVariants.{Equal}
+use Rattle.std.specs.Ordering.{match_ordering, nat_cmp}
 use Rattle.job_lane.specs.Runs.{put_before}
 use Rattle.rising_rows.specs.Rising.{put_row}
-use Rattle.rising_rows.proofs.SeatLemmas.{less-nat, greater-nat}
+use Rattle.rising_rows.specs.Seats.{key_order, IsSeat}
+use Rattle.rising_rows.proofs.SeatLemmas.{less-nat, greater-nat, put-between}
 use Rattle.run_queues.specs.declared.serving.Serving.{Serving}
 
 fresh_step : {R : Type 0} (key : R → ℕ) (p : R → Bool) (row y : R) (ys : List R) (b c : Bool) → p y ≡ b → nat_lt (key row) (key y) ≡ b → (key row == key y) ≡ c → list_any (λ r. key row == key r) (y ∷ ys) ≡ false
@@ -23,6 +25,23 @@ pub put_fresh : {R : Type 0} (key : R → ℕ) (p : R → Bool) (row : R) (rows 
 put_fresh key p row [] same new = refl
 put_fresh key p row (y ∷ ys) same new =
     fresh_step key p row y ys (nat_lt (key row) (key y)) (key row == key y) (same y) refl refl new (put_fresh key p row ys same)
+
+-- it goes to its seat
+pub put_seat : {R : Type 0} (key : R → ℕ) (row : R) (rows : List R) (at : ℕ) → IsSeat (key_order key (key row)) rows (Err at) → list_any (λ r. key row == key r) rows ≡ false → insert rows at row ≡ put_before (λ r. nat_lt (key row) (key r)) row rows
+put_seat key row rows at seat new = put-between (key_order key (key row)) row rows at seat ∙ put_fresh key (λ r. nat_lt (key row) (key r)) row rows (λ r. refl) new
+
+tied : (m n : ℕ) → nat_cmp m n ≡ Equal → (n == m) ≡ true
+tied m n e = grind (arith, nat_tests)
+
+taken_step : {R : Type 0} (key : R → ℕ) (row y : R) (ys : List R) (b : Bool) → (key row == key y) ≡ b → list_any (λ r. key row == key r) (y ∷ ys) ≡ false → (b ≡ false) × (list_any (λ r. key row == key r) ys ≡ false)
+taken_step key row y ys true e new = let k = rw e at new in absurd cc
+taken_step key row y ys false e new = (refl, rw e at new)
+
+-- no row stands where it goes
+pub not_taken : {R : Type 0} (key : R → ℕ) (row : R) (rows : List R) (at : ℕ) → at < length rows → ((d : R) → nat_cmp (key (get_or rows at d)) (key row) ≡ Equal) → list_any (λ r. key row == key r) rows ≡ false → ⊥
+not_taken key row [] at lt same new = absurd (omega arith)
+not_taken key row (y ∷ ys) zero lt same new = let k = taken_step key row y ys true (tied (key y) (key row) (same row)) new in absurd cc
+not_taken key row (y ∷ ys) (suc at) lt same new = not_taken key row ys at (omega arith) (λ d. same d) (taken_step key row y ys (key row == key y) refl new).1
 
 pub one_more : (m n : ℕ) → nat_lt m n ≡ nat_lt (m + 1) (n + 1)
 one_more m n = by_test (nat_lt m n) refl where

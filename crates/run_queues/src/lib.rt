@@ -5,10 +5,12 @@
 pub mod front;
 pub mod lanes;
 pub mod queues;
+pub mod ranked;
 pub mod ready;
 pub mod serving;
 pub mod waiting;
 
 pub use front::Front;
 pub use queues::Queues;
+pub use ranked::Ranked;
 pub use serving::Serving;

@@ -25,13 +25,14 @@ use std::marker::Model;
 pub struct Queues {
     last: u64,
     lanes: IndexMap<u32, Lane>,
-    fronts: Vec<Front>,
+    fronts: VecDeque<Front>,
     serving: Vec<Serving>,
     logs: IndexMap<u64, u64>,
 }
 
 impl Model for Queues {
     ghost use Rattle.std.specs.Prelude.{◌-◌, ◌≤◌, map, vec_len, vec_capacity};
+    ghost use Rattle.std.specs.VecDeque.{deque_len, deque_capacity};
     ghost use Rattle.run_queues.specs.Order.{in_order, Hold, QueuesView};
     ghost use Rattle.run_queues.specs.Serving.{by_runner, Serve};
     ghost use Rattle.run_queues.specs.Waiting.{Counts};
@@ -44,12 +45,12 @@ impl Model for Queues {
       on_runners = by_runner q.lanes.entries q.serving.items;
       last = q.last;
       rooms = map (λ e. (e.0, e.1.room)) q.lanes.entries;
-      fronts = vec_capacity q.fronts - vec_len q.fronts;
+      fronts = deque_capacity q.fronts - deque_len q.fronts;
       runners = vec_capacity q.serving - vec_len q.serving;
       logs = spare q.logs;
     } };
 
-    ghost invariant = { λ q. Hold q.lanes.entries q.fronts.items (in_order q.lanes.entries) q.last × Serve q.lanes.entries q.serving.items (by_runner q.lanes.entries q.serving.items) × (vec_len q.fronts ≤ vec_capacity q.fronts) × Counts q.logs.entries (in_order q.lanes.entries) };
+    ghost invariant = { λ q. Hold q.lanes.entries q.fronts.items (in_order q.lanes.entries) q.last × Serve q.lanes.entries q.serving.items (by_runner q.lanes.entries q.serving.items) × (deque_len q.fronts ≤ deque_capacity q.fronts) × Counts q.logs.entries (in_order q.lanes.entries) };
 }
 
 impl Queues {
@@ -62,7 +63,7 @@ impl Queues {
         Queues {
             last: 0,
             lanes: IndexMap::new(alloc),
-            fronts: Vec::new(alloc),
+            fronts: VecDeque::new(alloc),
             serving: Vec::new(alloc),
             logs: IndexMap::new(alloc),
         }
@@ -141,7 +142,7 @@ impl Queues {
     pub fn front(&self) -> Option<(JobId, &QueuedRun)>
         ensures { MatchOption result (ready_front self.now.runs self.now.on_runners ≡ None) (λ front. ready_front self.now.runs self.now.on_runners ≡ Some (queued_in front.0 front.1.now)) }
     {
-        match ready::ready_front(self.fronts.as_slice(), &self.lanes) {
+        match ready::ready_front(&self.fronts, &self.lanes) {
             None => None,
             Some(front) => match lanes::first_run(&self.lanes, front.job) {
                 None => None,
@@ -219,7 +220,7 @@ impl Queues {
         ensures on_runners { self.new.on_runners ≡ put_working runner at (ready_front self.old.runs self.old.on_runners) self.old.on_runners }
         ensures last { self.new.last ≡ self.old.last }
     {
-        match ready::ready_front(self.fronts.as_slice(), &self.lanes) {
+        match ready::ready_front(&self.fronts, &self.lanes) {
             None => {}
             Some(front) => {
                 let new = Serving {
@@ -231,7 +232,7 @@ impl Queues {
                 waiting::take_first(&mut self.logs, &self.lanes, front.job);
                 lanes::poll(&mut self.lanes, front.job, runner, at);
                 let next = lanes::first_front(&self.lanes, front.job);
-                ready::replace(&mut self.fronts, front.number, next);
+                ready::replace(&mut self.fronts, front, next);
             }
         }
     }

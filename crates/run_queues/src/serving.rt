@@ -7,7 +7,7 @@ use job_values::{JobId, RunnerNo};
 use rising_rows::{Keyed, put, row_of, take};
 
 /// The job that a runner serves.
-#[derive(Clone, Copy, Debug)]
+#[derive(Clone, Copy)]
 pub struct Serving {
     pub runner: RunnerNo,
     pub job: JobId,

@@ -11,7 +11,7 @@ use misfire_rules::{Decision, decide};
 use std::alloc::Global;
 
 /// A look at the row of a job: its due time, and what is decided.
-#[derive(Clone, Copy, Debug)]
+#[derive(Clone, Copy)]
 pub struct Look {
     pub due: Moment,
     pub decision: Decision,

@@ -66,7 +66,7 @@ pub fn open_scan(admin: AdminNo, at: Moment, page: Vec<PageEntry>) -> Option<Sca
 }
 
 /// The entry that a step looks at, and the moment of its scan.
-#[derive(Clone, Copy, Debug)]
+#[derive(Clone, Copy)]
 pub struct Standing {
     pub entry: PageEntry,
     pub at: Moment,

@@ -6,7 +6,7 @@ ghost use Rattle.script_text.specs.Lines.{command_at};
 use line_grammar::{ReadError, Reader};
 
 /// What a line asks for.
-#[derive(Clone, Copy, Debug, PartialEq, Eq)]
+#[derive(Clone, Copy, PartialEq, Eq)]
 pub(crate) enum Command {
     Start,
     Stop,

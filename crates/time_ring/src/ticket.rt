@@ -4,7 +4,7 @@ use job_values::{Edition, JobId, Moment, Seq};
 
 /// A promise that a job fires: the job, its edition when it was looked at, and the moment at which
 /// it is due.
-#[derive(Clone, Copy, Debug, PartialEq, Eq)]
+#[derive(Clone, Copy, PartialEq, Eq)]
 pub struct Ticket {
     pub job: JobId,
     pub edition: Edition,

@@ -9,13 +9,14 @@
 //! | `< ` | a line that is read |
 //! | `<<` | bytes that are read, without a line feed behind them |
 //! | `> ` | a line that must be written |
+//! | `<*N `, `>*N ` | N such lines, from 1 to N, each with its number where a `%` stands |
 //! | `! ` | the status; without such a line it is 0 |
 #![tactic(auto)]
 
 use outside::{BytesSink, BytesSource};
 use replay_program::replay_main;
 use std::alloc::Global;
-use std::io::{self, Read};
+use std::io::{self, Read, Write};
 
 /// A row: its name, its words, what is read, and what must be written and answered.
 #[derive(Drop)]
@@ -36,12 +37,36 @@ fn put_line(text: &mut Vec<u8>, line: &[u8]) -> io::Result<()> {
     Ok(())
 }
 
-/// The number that decimal digits say, up to 255.
-fn number(digits: &[u8]) -> u8 {
-    digits.iter().fold(0, |sum: u8, digit| {
+/// The number that decimal digits say.
+fn number(digits: &[u8]) -> u32 {
+    digits.iter().fold(0, |sum: u32, digit| {
         sum.saturating_mul(10)
-            .saturating_add(digit.saturating_sub(b'0'))
+            .saturating_add(u32::from(digit.saturating_sub(b'0')))
     })
+}
+
+/// Puts a line with its number in place of each `%` behind others.
+fn put_numbered(text: &mut Vec<u8>, line: &[u8], at: u32) -> io::Result<()> {
+    for byte in line {
+        if *byte == b'%' {
+            write!(text, "{at}")?;
+        } else {
+            text.push(*byte)?;
+        }
+    }
+    text.push(b'\n')?;
+    Ok(())
+}
+
+/// Puts as many lines behind others as the number in front of the first space says.
+fn put_counted(text: &mut Vec<u8>, counted: &[u8]) -> io::Result<()> {
+    let mut parts = counted.splitn(2, |b| *b == b' ');
+    let count = number(parts.next().unwrap_or_default());
+    let line = parts.next().unwrap_or_default();
+    for at in 0..count {
+        put_numbered(text, line, at.saturating_add(1))?;
+    }
+    Ok(())
 }
 
 /// The words between bars.
@@ -78,8 +103,10 @@ impl Row {
             [b'?', b' ', rest @ ..] => self.words = words(alloc, rest)?,
             [b'<', b' ', rest @ ..] => put_line(&mut self.read, rest)?,
             [b'<', b'<', rest @ ..] => self.read.extend_from_slice(rest)?,
+            [b'<', b'*', rest @ ..] => put_counted(&mut self.read, rest)?,
             [b'>', b' ', rest @ ..] => put_line(&mut self.wanted, rest)?,
-            [b'!', b' ', rest @ ..] => self.status = number(rest),
+            [b'>', b'*', rest @ ..] => put_counted(&mut self.wanted, rest)?,
+            [b'!', b' ', rest @ ..] => self.status = number(rest).min(255) as u8,
             _ => return Ok(false),
         }
         Ok(true)

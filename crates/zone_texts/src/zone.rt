@@ -7,7 +7,7 @@ use job_values::{Offset, Text, ZoneFault};
 use std::marker::Model;
 
 /// When a clock is moved: a weekday of a month, and a time of that day.
-#[derive(Clone, Copy, Debug, PartialEq, Eq)]
+#[derive(Clone, Copy, PartialEq, Eq)]
 pub struct ChangeRule {
     month: u8,
     week: u8,
@@ -80,7 +80,7 @@ impl ChangeRule {
 }
 
 /// How a clock is moved twice a year.
-#[derive(Clone, Copy, Debug, PartialEq, Eq)]
+#[derive(Clone, Copy, PartialEq, Eq)]
 pub struct ZoneRules {
     /// Seconds east of Greenwich while daylight time holds.
     pub daylight: Offset,
@@ -91,7 +91,7 @@ pub struct ZoneRules {
 }
 
 /// The offset of a zone's clock, and how it changes.
-#[derive(Clone, Copy, Debug, PartialEq, Eq)]
+#[derive(Clone, Copy, PartialEq, Eq)]
 pub struct Zone {
     /// Seconds east of Greenwich: of the standard clock where there are rules, else of the one clock.
     pub standard: Offset,

@@ -1,15 +1,15 @@
-use Rattle.std.proofs.Common.{◌≡◌, not, ap, map, filter, ◌∙◌}
-use Rattle.executor_history.specs.Past.{is_trimmed, Known}
-use Rattle.executor_core.specs.Rows.{known_in}
-use Rattle.executor_core.proofs.KnownRows.{filter-map}
-use Rattle.rising_rows.proofs.RowLemmas.{rises-filter}
+use Rattle.std.proofs.Common.{◌∙◌}
+use Rattle.executor_core.proofs.LastRuns.{Trimmed, first_trimmed, first_left, trim_last, trim_known}
 use Rattle.executor_core.proofs.known.KnownLogs.trim.Goals as goal
 
-left : (c : goal.After-drop_trimmed) → map known_in c.drop_trimmed.new.rows.items ≡ filter (λ (k : Known). not (is_trimmed c.args.at c.args.held.now.ids c.args.queues.now.on_runners k)) (map known_in c.self.inside.rows.items)
-left c = ap (λ rows. map known_in rows) c.drop_trimmed.ensures ∙ filter-map known_in (λ (k : Known). not (is_trimmed c.args.at c.args.held.now.ids c.args.queues.now.on_runners k)) c.self.inside.rows.items
+dropped : (c : goal.After-drop_first) → Trimmed c.args.at c.args.held.now.ids c.args.queues.now.on_runners c.self.inside.last_runs.items c.self.inside.rows.entries c.drop_rows.new.rows.entries
+dropped c =
+    first_trimmed c.args.at c.args.held.now.ids c.args.queues.now.on_runners c.old_len-old.result c.self.inside.last_runs.items c.self.inside.rows.entries c.drop_rows.new.rows.entries c.old_len-old.ensures.rest c.drop_rows.ensures.known
 
 pub invariant_of-self : goal.invariant_of-self
-invariant_of-self c = rw (left c) (rises-filter (λ (k : Known). k.log) (λ (k : Known). not (is_trimmed c.args.at c.args.held.now.ids c.args.queues.now.on_runners k)) 0 (map known_in c.self.inside.rows.items) c.self.invariant)
+invariant_of-self c =
+    rw (c.drop_first.ensures ∙ first_left c.args.at c.args.held.now.ids c.args.queues.now.on_runners c.old_len-old.result c.self.inside.last_runs.items c.old_len-old.ensures.rest)
+    (trim_last c.args.at c.args.held.now.ids c.args.queues.now.on_runners c.self.inside.rows.entries c.drop_rows.new.rows.entries c.self.inside.last_runs.items c.self.invariant c.drop_rows.ensures.once (dropped c))
 
 pub returns : goal.returns
-returns c = rw (← c.self.view_is) (left c)
+returns c = rw (← c.self.view_is) (trim_known c.args.at c.args.held.now.ids c.args.queues.now.on_runners c.self.inside.rows.entries c.drop_rows.new.rows.entries c.self.inside.last_runs.items c.self.invariant c.drop_rows.ensures.once (dropped c))

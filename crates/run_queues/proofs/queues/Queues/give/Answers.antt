@@ -40,14 +40,14 @@ replace-requires-clause-new c =
     let es = c.self.inside.lanes.entries in
     let es' = c.poll.new.lanes.entries in
     let fs = c.self.inside.fronts.items in
-    let found : find (λ (g : Front). free es g.job) fs ≡ Some c.in-Some.front = rw c.as_slice.ensures.value at (sym c.ready_front.ensures ∙ c.in-Some.is) in
+    let found : find (λ (g : Front). free es g.job) fs ≡ Some c.in-Some.front = sym c.ready_front.ensures ∙ c.in-Some.is in
     rw (c.first_front-next.ensures ∙ lane_front c.in-Some.front.job es') (next_new (free es) es es' fs (in_order es) c.self.inside.last c.in-Some.front c.self.invariant.0 found (queues_polled es es' fs c.in-Some.front found c.poll.ensures.queues))
 
 pub replace-requires-clause-room : goal.replace-requires-clause-room
 replace-requires-clause-room c =
     let es = c.self.inside.lanes.entries in
     let fs = c.self.inside.fronts.items in
-    let found : find (λ (g : Front). free es g.job) fs ≡ Some c.in-Some.front = rw c.as_slice.ensures.value at (sym c.ready_front.ensures ∙ c.in-Some.is) in
+    let found : find (λ (g : Front). free es g.job) fs ≡ Some c.in-Some.front = sym c.ready_front.ensures ∙ c.in-Some.is in
     omega (arith, c.self.invariant.2, fewer (λ (g : Front). free es g.job) c.in-Some.front fs found)
 
 hold : (c : After-replace) → Hold c.poll.new.lanes.entries c.replace.new.fronts.items (without_first (is_ready (by_runner c.self.inside.lanes.entries c.self.inside.serving.items)) (in_order c.self.inside.lanes.entries)) c.self.inside.last
@@ -56,7 +56,7 @@ hold c =
     let es' = c.poll.new.lanes.entries in
     let fs = c.self.inside.fronts.items in
     let ss = c.self.inside.serving.items in
-    let found : find (λ (g : Front). free es g.job) fs ≡ Some c.in-Some.front = rw c.as_slice.ensures.value at (sym c.ready_front.ensures ∙ c.in-Some.is) in
+    let found : find (λ (g : Front). free es g.job) fs ≡ Some c.in-Some.front = sym c.ready_front.ensures ∙ c.in-Some.is in
     hold_given es es' fs c.replace.new.fronts.items ss (by_runner es ss) (in_order es) c.self.inside.last c.in-Some.front c.self.invariant.0 c.self.invariant.1 found c.poll.ensures.once
     (queues_polled es es' fs c.in-Some.front found c.poll.ensures.queues)
     (c.replace.ensures.items ∙ ap (λ o. put_next o (filter (λ (g : Front). not (c.in-Some.front.number == g.number)) fs)) (c.first_front-next.ensures ∙ lane_front c.in-Some.front.job es'))
@@ -67,7 +67,7 @@ serve c =
     let fs = c.self.inside.fronts.items in
     let ss = c.self.inside.serving.items in
     let P : QueuesView → Type 0 = λ v. run_on c.args.runner v.on_runners ≡ None in
-    let found : find (λ (g : Front). free es g.job) fs ≡ Some c.in-Some.front = rw c.as_slice.ensures.value at (sym c.ready_front.ensures ∙ c.in-Some.is) in
+    let found : find (λ (g : Front). free es g.job) fs ≡ Some c.in-Some.front = sym c.ready_front.ensures ∙ c.in-Some.is in
     serve_given es c.poll.new.lanes.entries fs ss c.serve.new.serving.items (by_runner es ss) (in_order es) c.self.inside.last c.in-Some.front c.args.runner c.args.at c.self.invariant.0 c.self.invariant.1 found
     (subst P (sym c.self.view_is) c.requires.free) c.poll.ensures.on_runners c.serve.ensures.items
 
@@ -76,7 +76,7 @@ counts c =
     let es = c.self.inside.lanes.entries in
     let fs = c.self.inside.fronts.items in
     let ss = c.self.inside.serving.items in
-    let found : find (λ (g : Front). free es g.job) fs ≡ Some c.in-Some.front = rw c.as_slice.ensures.value at (sym c.ready_front.ensures ∙ c.in-Some.is) in
+    let found : find (λ (g : Front). free es g.job) fs ≡ Some c.in-Some.front = sym c.ready_front.ensures ∙ c.in-Some.is in
     counts_given es fs ss (by_runner es ss) (in_order es) c.self.inside.last c.in-Some.front c.self.inside.logs.entries c.take_first.new.logs.entries c.self.invariant.0 c.self.invariant.1 found c.self.invariant.3
     c.take_first.ensures.once c.take_first.ensures.times
 
@@ -97,7 +97,7 @@ returns-in-None-clause-runs c =
     let fs = c.self.inside.fronts.items in
     let ss = c.self.inside.serving.items in
     let ws = by_runner es ss in
-    let found : find (λ (g : Front). free es g.job) fs ≡ None = rw c.as_slice.ensures.value at (sym c.ready_front.ensures ∙ c.in-None.is) in
+    let found : find (λ (g : Front). free es g.job) fs ≡ None = sym c.ready_front.ensures ∙ c.in-None.is in
     let none = sym (ready_is es ss ws (in_order es) c.self.invariant.1).0 ∙ none_ready (free es) es fs (in_order es) c.self.inside.last c.self.invariant.0 found in
     rw (← c.self.view_is) (sym (none_taken (is_ready ws) (in_order es) none))
 
@@ -107,7 +107,7 @@ returns-in-None-clause-on_runners c =
     let fs = c.self.inside.fronts.items in
     let ss = c.self.inside.serving.items in
     let ws = by_runner es ss in
-    let found : find (λ (g : Front). free es g.job) fs ≡ None = rw c.as_slice.ensures.value at (sym c.ready_front.ensures ∙ c.in-None.is) in
+    let found : find (λ (g : Front). free es g.job) fs ≡ None = sym c.ready_front.ensures ∙ c.in-None.is in
     let none = sym (ready_is es ss ws (in_order es) c.self.invariant.1).0 ∙ none_ready (free es) es fs (in_order es) c.self.inside.last c.self.invariant.0 found in
     rw (← c.self.view_is) (rw none refl)
 

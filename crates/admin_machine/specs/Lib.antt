@@ -1,0 +1,4 @@
+pub mod Views
+pub mod Standing
+pub mod Refusals
+pub mod Opening

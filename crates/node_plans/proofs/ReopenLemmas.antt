@@ -1,0 +1,151 @@
+-- Logs that an opening ends: those that have no trigger code.
+use Rattle.std.proofs.Common.{◌≡◌, ℕ, ◌+◌, ◌<◌, ◌≤◌, List, [], ◌∷◌, ◌++◌, Bool, true, false, cond, ltb, leb, ◌&&◌, is_some, Option, Some, None, length, map, take, get_or, refl, sym, ap, ◌∙◌, subst, arith}
+use Rattle.std.specs.List.{filter, All, AllByRecursion}
+use Rattle.std.proofs.lemmas.Bool.Decides.{nat_tests}
+use Rattle.std.proofs.lemmas.List.{map-append, take_more}
+use Rattle.std.proofs.lemmas.List.Elements.{filter-append, recursion_from_All, All-from_recursion}
+use Rattle.job_events.specs.declared.cluster.ClusterEvent.TheVariants.{NodeStop, ScanStep, Turn, TriggerJob, Reopen}
+use Rattle.job_records.specs.declared.change.Change.TheVariants.{PutLog}
+use Rattle.job_records.specs.declared.log.Log.{Log}
+use Rattle.job_records.specs.Changes.{applied_all, AreAllowed}
+use Rattle.job_records.specs.Rows.{IsRising}
+use Rattle.job_records.specs.Rules.{KeepsRules}
+use Rattle.job_records.specs.Tables.{Tables}
+use Rattle.job_records.proofs.Keeping.{all_keep}
+use Rattle.job_records.proofs.RowLemmas.{rising-ends}
+use Rattle.cluster_history.specs.History.{History, Begin, After, opening_of}
+use Rattle.cluster_history.specs.Firings.{Shot, shots_stepped, shots_turned, shots_asked}
+use Rattle.cluster_history.specs.Openings.{rows_of}
+use Rattle.cluster_history.specs.Settling.{is_unsent, ended_log, ended_where, log_with}
+use Rattle.cluster_history.specs.Logs.{opener_after, opener_of, is_open_at_any, is_open_of, is_open_of_any, logs_of, last_log, pools_of, placed_at}
+use Rattle.cluster_history.specs.Runs.{OpensWell}
+use Rattle.cluster_history.proofs.Marks.{marked, changed-marked}
+use Rattle.cluster_history.proofs.Openings.{found-all}
+use Rattle.cluster_history.proofs.RowIds.{logs_rise, placed-rise}
+use Rattle.node_plans.specs.Endings.{ending_of, endings, ended_in, unsent_endings, unsent_ended}
+use Rattle.node_plans.proofs.EndingLemmas.{EndsLogs, ends-logs}
+
+-- one log more
+one-unsent : (b : Bool) (log : Log) → map (λ l. PutLog (ended_log l)) (cond b (log ∷ []) []) ≡ cond b (PutLog (ended_log log) ∷ []) []
+one-unsent true log = refl
+one-unsent false log = refl
+
+pub unsent-more : (logs : List Log) (i : ℕ) (log : Log) → i < length logs → log ≡ get_or logs i log → unsent_endings (take (i + 1) logs) ≡ unsent_endings (take i logs) ++ cond (is_unsent log) (PutLog (ended_log log) ∷ []) []
+unsent-more logs i log within is =
+    ap unsent_endings (take_more logs i log within ∙ ap (λ x. take i logs ++ x ∷ []) (sym is))
+    ∙ ap (map (λ l. PutLog (ended_log l))) (filter-append is_unsent (take i logs) (log ∷ []))
+    ∙ map-append (λ l. PutLog (ended_log l)) (filter is_unsent (take i logs)) (cond (is_unsent log) (log ∷ []) [])
+    ∙ ap (λ cs. unsent_endings (take i logs) ++ cs) (one-unsent (is_unsent log) log)
+
+-- the ids of the logs that have no trigger code
+abbrev unsent_ids : List Log → List ℕ
+unsent_ids logs = map (λ log. log.id) (filter is_unsent logs)
+
+-- their ends, by their ids
+by-one : (b : Bool) (all : List Log) (log : Log) (rest : List Log) → log_with log.id all ≡ Some log → endings all (map (λ l. l.id) rest) ≡ map (λ l. PutLog (ended_log l)) rest
+    → endings all (map (λ l. l.id) (cond b (log ∷ rest) rest)) ≡ map (λ l. PutLog (ended_log l)) (cond b (log ∷ rest) rest)
+by-one true all log rest found same = ap (λ o. ending_of o ++ endings all (map (λ l. l.id) rest)) found ∙ ap (λ cs. PutLog (ended_log log) ∷ cs) same
+by-one false all log rest found same = same
+
+by-ids : (all logs : List Log) → AllByRecursion (λ log. log_with log.id all ≡ Some log) logs → endings all (unsent_ids logs) ≡ unsent_endings logs
+by-ids all [] found = refl
+by-ids all (log ∷ logs) found = by-one (is_unsent log) all log (filter is_unsent logs) found.0 (by-ids all logs found.1)
+
+-- the changes of an opening are allowed, and end each log that has no trigger code
+pub record EndsUnsent (t : Tables) : Type 0 where
+  pub allowed : AreAllowed t (unsent_endings t.logs)
+  pub gives : applied_all t (unsent_endings t.logs) ≡ unsent_ended t
+  pub rules : KeepsRules (unsent_ended t)
+
+pub ends-unsent : (t : Tables) → KeepsRules t → EndsUnsent t
+ends-unsent t rules =
+    let ids : List ℕ = unsent_ids t.logs in
+    let ends : EndsLogs t (endings t.logs (unsent_ids t.logs)) (unsent_ids t.logs) = ends-logs t (unsent_ids t.logs) rules in
+    let same : endings t.logs (unsent_ids t.logs) ≡ unsent_endings t.logs = by-ids t.logs t.logs (found-all (λ (log : Log). log.id) 0 t.last.log t.logs rules.logs.rising) in
+    let marks : ended_where is_unsent t.logs ≡ ended_in (unsent_ids t.logs) t.logs = changed-marked (λ (log : Log). log.id) is_unsent ended_log (unsent_ids t.logs) t.logs (marked (λ (log : Log). log.id) is_unsent 0 t.last.log t.logs rules.logs.rising) in
+    let allowed : AreAllowed t (unsent_endings t.logs) = subst (AreAllowed t) same ends.allowed in
+    let gives : applied_all t (unsent_endings t.logs) ≡ unsent_ended t = ap (applied_all t) (sym same) ∙ ends.gives ∙ ap (λ ls. record t { logs = ls }) (sym marks) in record {
+      allowed = allowed;
+      gives = gives;
+      rules = subst KeepsRules gives (all_keep t (unsent_endings t.logs) rules allowed);
+    }
+
+-- then each log has a trigger code
+sent-one : (b : Bool) (log : Log) → is_unsent log ≡ b → is_unsent (cond b (ended_log log) log) ≡ false
+sent-one true log is = refl
+sent-one false log is = is
+
+sent-each : (logs : List Log) → AllByRecursion (λ log. is_unsent log ≡ false) (ended_where is_unsent logs)
+sent-each [] = tt
+sent-each (log ∷ logs) = (sent-one (is_unsent log) log refl, sent-each logs)
+
+pub all-sent : (logs : List Log) → All (λ log. is_unsent log ≡ false) (ended_where is_unsent logs)
+all-sent logs = All-from_recursion (λ (log : Log). is_unsent log ≡ false) (ended_where is_unsent logs) (sent-each logs)
+
+-- in a history each log without a trigger code was opened in it
+abbrev Opened : (ℕ → Option ℕ) → List Log → Type 0
+Opened opener logs = AllByRecursion (λ log. is_open_at_any (opener log.id) log ≡ is_unsent log) logs
+
+and-false : (b : Bool) → (b && false) ≡ false
+and-false true = refl
+and-false false = refl
+
+opened-first : (opener : ℕ → Option ℕ) (logs : List Log) → AllByRecursion (λ log. is_unsent log ≡ false) logs → Opened opener logs
+opened-first opener [] sent = tt
+opened-first opener (log ∷ logs) sent = (ap (λ b. is_some (opener log.id) && b) sent.0 ∙ and-false (is_some (opener log.id)) ∙ sym sent.0, opened-first opener logs sent.1)
+
+-- logs that are ended
+opened-ended_one : (opener : ℕ → Option ℕ) (b : Bool) (log : Log) → is_open_at_any (opener log.id) log ≡ is_unsent log → is_open_at_any (opener (cond b (ended_log log) log).id) (cond b (ended_log log) log) ≡ is_unsent (cond b (ended_log log) log)
+opened-ended_one opener true log is = and-false (is_some (opener log.id))
+opened-ended_one opener false log is = is
+
+opened-ended : (opener : ℕ → Option ℕ) (passes : Log → Bool) (logs : List Log) → Opened opener logs → Opened opener (ended_where passes logs)
+opened-ended opener passes [] opened = tt
+opened-ended opener passes (log ∷ logs) opened = (opened-ended_one opener (passes log) log opened.0, opened-ended opener passes logs opened.1)
+
+-- logs that are opened behind the last one
+opened-behind : (opener : ℕ → Option ℕ) (logs more : List Log) → Opened opener logs → Opened opener more → Opened opener (logs ++ more)
+opened-behind opener [] more first second = second
+opened-behind opener (log ∷ logs) more first second = (first.0, opened-behind opener logs more first.1 second)
+
+opened-old : (opener : ℕ → Option ℕ) (last count admin low : ℕ) (logs : List Log) → IsRising (λ log. log.id) low logs last → Opened opener logs → Opened (λ id. opener_after last count admin id (opener id)) logs
+opened-old opener last count admin low [] rising opened = tt
+opened-old opener last count admin low (log ∷ logs) rising opened =
+    let ends : log.id ≤ last = rising-ends (λ (l : Log). l.id) log.id last logs rising.1 in
+    let test : ltb last log.id ≡ false = grind (arith, nat_tests) in
+    let same : opener_after last count admin log.id (opener log.id) ≡ opener log.id = ap (λ b. cond (b && leb log.id (last + count)) (Some admin) (opener log.id)) test in
+    (ap (λ o. is_open_at_any o log) same ∙ opened.0, opened-old opener last count admin log.id logs rising.1 opened.1)
+
+opened-new : (opener : ℕ → Option ℕ) (last count admin low : ℕ) (logs : List Log) → last ≤ low → IsRising (λ log. log.id) low logs (last + count) → Opened (λ id. opener_after last count admin id (opener id)) logs
+opened-new opener last count admin low [] above rising = tt
+opened-new opener last count admin low (log ∷ logs) above rising =
+    let first : low < log.id = rising.0 in
+    let ends : log.id ≤ last + count = rising-ends (λ (l : Log). l.id) log.id (last + count) logs rising.1 in
+    let high : ltb last log.id ≡ true = grind (arith, nat_tests) in
+    let within : leb log.id (last + count) ≡ true = grind (arith, nat_tests) in
+    let here : opener_after last count admin log.id (opener log.id) ≡ Some admin = ap (λ b. cond (ltb last log.id && b) (Some admin) (opener log.id)) within ∙ ap (λ b. cond (b && true) (Some admin) (opener log.id)) high in
+    let rest : last ≤ log.id = omega arith in
+    (ap (λ o. is_open_at_any o log) here, opened-new opener last count admin log.id logs rest rising.1)
+
+opened-more : (h : History) (admin : ℕ) (shots : List Shot) → OpensWell (opening_of h) → Opened (opener_of h) (logs_of h) → Opened (λ id. opener_after (last_log h) (length shots) admin id (opener_of h id)) (logs_of h ++ rows_of (placed_at h admin shots))
+opened-more h admin shots well opened =
+    opened-behind _ (logs_of h) (rows_of (placed_at h admin shots))
+    (opened-old (opener_of h) (last_log h) (length shots) admin 0 (logs_of h) (logs_rise h well) opened)
+    (opened-new (opener_of h) (last_log h) (length shots) admin (last_log h) (rows_of (placed_at h admin shots)) (omega arith) (placed-rise (last_log h) (pools_of h admin) shots))
+
+unsent-opened : (h : History) → OpensWell (opening_of h) → Opened (opener_of h) (logs_of h)
+unsent-opened (Begin o) well = opened-first (λ id. None) o.tables.logs (recursion_from_All (λ (log : Log). is_unsent log ≡ false) o.tables.logs well.sent)
+unsent-opened (After h (ScanStep admin) r) well = opened-more h admin (shots_stepped h) well (unsent-opened h well)
+unsent-opened (After h (Turn admin at) r) well = opened-more h admin (shots_turned h admin at) well (unsent-opened h well)
+unsent-opened (After h (TriggerJob admin at job param) r) well = opened-more h admin (shots_asked h at job param) well (unsent-opened h well)
+unsent-opened (After h (NodeStop admin) r) well = opened-ended (opener_of h) (is_open_of h admin) (logs_of h) (unsent-opened h well)
+unsent-opened (After h Reopen r) well = opened-ended (opener_of h) (is_open_of_any h) (logs_of h) (unsent-opened h well)
+unsent-opened (After h _ r) well = unsent-opened h well
+
+ended-same : (p q : Log → Bool) (logs : List Log) → AllByRecursion (λ log. p log ≡ q log) logs → ended_where p logs ≡ ended_where q logs
+ended-same p q [] same = refl
+ended-same p q (log ∷ logs) same = ap (λ b. cond b (ended_log log) log ∷ ended_where p logs) same.0 ∙ ap (λ ls. cond (q log) (ended_log log) log ∷ ls) (ended-same p q logs same.1)
+
+-- so a stop of all ends just the logs that have no trigger code
+pub ended-unsent : (h : History) → OpensWell (opening_of h) → ended_where (is_open_of_any h) (logs_of h) ≡ ended_where is_unsent (logs_of h)
+ended-unsent h well = ended-same (is_open_of_any h) is_unsent (logs_of h) (unsent-opened h well)

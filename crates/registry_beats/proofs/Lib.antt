@@ -1,0 +1,4 @@
+pub mod KeyRows
+pub mod BeatLemmas
+pub mod SweepLemmas
+pub mod ListLemmas

@@ -72,7 +72,7 @@ impl<K: Keeper> AdminMachine<K> {
         ensures held { OnErr result ((K.seen self.new.keeper).tables ≡ (K.seen self.old.keeper).tables) }
         ensures rows { Holds (K.seen self.new.keeper).tables (kept_of self.new.cluster).tables }
         ensures counted { IsCounted (K.seen self.old.keeper).faults (K.seen self.new.keeper).faults result }
-        ensures refused { IfOk result (λ reply. is_refusal reply ≡ true → self.new.keeper ≡ self.old.keeper) }
+        ensures spared { IfOk result (λ reply. is_refusal reply ≡ true → self.new.keeper ≡ self.old.keeper) }
     {
         let Ok(prepared) = self.cluster.prepare(event) else {
             return Err(AdminRefusal::Memory);
@@ -92,8 +92,14 @@ fn read_admin(event: &ClusterEvent)
 }
 
 impl<K: Keeper> Machine for AdminMachine<K> {
-    ghost use Rattle.admin_machine.specs.Refusals.{is_want, Refuses};
-    ghost use Rattle.admin_machine.specs.Standing.{IsLegalList, Stands, opening_in};
+    ghost use Rattle.std.specs.Prelude.{◌≡◌, List, [], ◌∷◌, ◌++◌, true, IfOk, IfErr, OnErr};
+    ghost use Rattle.cluster_history.specs.History.{is_refusal};
+    ghost use Rattle.cluster_core.specs.Kept.{kept_of};
+    ghost use Rattle.cluster_core.specs.Stands.{Answers};
+    ghost use Rattle.admin_machine.specs.Refusals.{is_want, Refuses, IsCounted};
+    ghost use Rattle.admin_machine.specs.Standing.{Entry, IsLegalList, Stands, opening_in};
+    ghost use Rattle.admin_machine.specs.Views.{Holds};
+    ghost use Rattle.admin_machine.specs.declared.machine.AdminOpening.{AdminOpening};
 
     type Event = ClusterEvent;
 
@@ -113,7 +119,19 @@ impl<K: Keeper> Machine for AdminMachine<K> {
 
     ghost is_want = { is_want };
 
-    fn step(&mut self, event: &ClusterEvent) -> Result<ClusterReply, AdminRefusal> {
+    /// Acts an event, and says all that `act` does.
+    fn step(&mut self, event: &ClusterEvent) -> Result<ClusterReply, AdminRefusal>
+        ensures done { (o : AdminOpening) (log : List Entry) → Stands (K.seen self.old.keeper).tables o log self.old.cluster
+            → IfOk result (λ r. Stands (K.seen self.new.keeper).tables o (log ++ (event.now, r) ∷ []) self.new.cluster) }
+        ensures refused { (o : AdminOpening) (log : List Entry) → Stands (K.seen self.old.keeper).tables o log self.old.cluster
+            → IfErr result (λ x. Stands (K.seen self.new.keeper).tables o log self.new.cluster × Refuses o log event.now x) }
+        ensures answers { IfOk result (λ reply. Answers self.old.cluster event.now reply self.new.cluster) }
+        ensures left { OnErr result (kept_of self.new.cluster ≡ kept_of self.old.cluster) }
+        ensures held { OnErr result ((K.seen self.new.keeper).tables ≡ (K.seen self.old.keeper).tables) }
+        ensures rows { Holds (K.seen self.new.keeper).tables (kept_of self.new.cluster).tables }
+        ensures counted { IsCounted (K.seen self.old.keeper).faults (K.seen self.new.keeper).faults result }
+        ensures spared { IfOk result (λ reply. is_refusal reply ≡ true → self.new.keeper ≡ self.old.keeper) }
+    {
         read_admin(event);
         self.act(event)
     }

@@ -1,18 +1,18 @@
 -- What a change beside the rows makes of what is kept.
 use Rattle.std.proofs.Common.{◌≡◌, ℕ, ◌<◌, List, [], ◌∷◌, map, length, get_or, set, replicate, Option, refl, sym, ap, ◌∙◌, arith}
-use Rattle.std.proofs.lemmas.List.{map-set, length-map, get_or-map, get_or-set_same}
+use Rattle.std.proofs.lemmas.List.{map-set, length-map, get_or-set_same}
 use Rattle.std.proofs.Math.Seq.{map-set_same}
 use Rattle.job_records.specs.Changes.{applied_all}
 use Rattle.job_records.specs.Room.{RecordsState}
 use Rattle.job_records.specs.Tables.{Tables}
 use Rattle.cluster_history.specs.declared.scan.Scan.{Scan}
+use Rattle.cluster_history.specs.declared.taken.TakenLog.{TakenLog}
 use Rattle.cluster_plan.specs.declared.node.Node.{Node}
 use Rattle.cluster_plan.specs.Nodes.{NodeKept, node_in, node_at, nodes_with, idle, stopped}
 use Rattle.cluster_plan.specs.Prepared.{PreparedEvent}
 use Rattle.cluster_plan.specs.Kept.{Kept}
 use Rattle.cluster_core.specs.Kept.{ClusterState, kept_of}
 use Rattle.cluster_plan.specs.Commits.{node_changed, committed}
-use Rattle.cluster_core.specs.Room.{pool_room, ring_room}
 use Rattle.cluster_plan.proofs.ReadLemmas.{node-read}
 
 -- a node at a place, made from the one that was there
@@ -27,27 +27,12 @@ nodes-put nodes admin place old new change here below is made =
 pub nodes-kept : (nodes : List Node) (place : ℕ) (old new : Node) → old ≡ get_or nodes place old → node_in new ≡ node_in old → map node_in (set nodes place new) ≡ map node_in nodes
 nodes-kept nodes place old new is same = map-set_same node_in nodes place new old (same ∙ ap node_in is)
 
--- the room that is read at a place
-pub ring-room_read : (nodes : List Node) (admin place : ℕ) (one : Node) → place ≡ admin → admin < length nodes → one ≡ get_or nodes place one → ring_room nodes admin ≡ one.ring.room
-ring-room_read nodes admin place one here below is =
-    get_or-map (λ (n : Node). n.ring.room) nodes admin one [] below ∙ sym (ap (λ (n : Node). n.ring.room) (is ∙ ap (λ i. get_or nodes i one) here))
-
-pub pool-room_read : (nodes : List Node) (admin place : ℕ) (one : Node) → place ≡ admin → admin < length nodes → one ≡ get_or nodes place one → pool_room nodes admin ≡ one.pools.room.logs
-pool-room_read nodes admin place one here below is =
-    get_or-map (λ (n : Node). n.pools.room.logs) nodes admin one 0 below ∙ sym (ap (λ (n : Node). n.pools.room.logs) (is ∙ ap (λ i. get_or nodes i one) here))
-
--- the room of a node that is put at a place
-pub ring-room_put : (nodes : List Node) (admin place : ℕ) (one : Node) → place ≡ admin → admin < length nodes → ring_room (set nodes place one) admin ≡ one.ring.room
-ring-room_put nodes admin place one here below =
-    ap (λ n. ring_room (set nodes n one) admin) here
-    ∙ ap (λ rooms. get_or rooms admin []) (map-set (λ (n : Node). n.ring.room) nodes admin one)
-    ∙ get_or-set_same (map (λ (n : Node). n.ring.room) nodes) admin one.ring.room [] (omega (arith, length-map nodes (λ (n : Node). n.ring.room)))
-
-pub pool-room_put : (nodes : List Node) (admin place : ℕ) (one : Node) → place ≡ admin → admin < length nodes → pool_room (set nodes place one) admin ≡ one.pools.room.logs
-pool-room_put nodes admin place one here below =
-    ap (λ n. pool_room (set nodes n one) admin) here
-    ∙ ap (λ rooms. get_or rooms admin 0) (map-set (λ (n : Node). n.pools.room.logs) nodes admin one)
-    ∙ get_or-set_same (map (λ (n : Node). n.pools.room.logs) nodes) admin one.pools.room.logs 0 (omega (arith, length-map nodes (λ (n : Node). n.pools.room.logs)))
+-- what is read of a node that is put at a place
+pub part-put : {X : Type 0} (part : Node → X) (default : X) (nodes : List Node) (admin place : ℕ) (one : Node) → place ≡ admin → admin < length nodes → get_or (map part (set nodes place one)) admin default ≡ part one
+part-put part default nodes admin place one here below =
+    ap (λ n. get_or (map part (set nodes n one)) admin default) here
+    ∙ ap (λ parts. get_or parts admin default) (map-set part nodes admin one)
+    ∙ get_or-set_same (map part nodes) admin (part one) default (omega (arith, length-map nodes part))
 
 -- every admin stops
 pub idle-all : (nodes : List Node) → replicate (length nodes) idle ≡ map stopped (map node_in nodes)
@@ -55,9 +40,9 @@ idle-all [] = refl
 idle-all (one ∷ nodes) = ap (λ rest. idle ∷ rest) (idle-all nodes)
 
 -- what is kept, by its parts
-pub kept-by : (state : ClusterState) (scan next : Option Scan) (nodes : List Node) (kept : List NodeKept) → scan ≡ next → map node_in nodes ≡ kept
-    → kept_of (record state { scan = scan; nodes = nodes }) ≡ record (kept_of state) { scan = next; nodes = kept }
-kept-by state scan next nodes kept a b = (cc)
+pub kept-by : (state : ClusterState) (scan next : Option Scan) (taken left : List TakenLog) (nodes : List Node) (kept : List NodeKept) → scan ≡ next → taken ≡ left → map node_in nodes ≡ kept
+    → kept_of (record state { scan = scan; taken = taken; nodes = nodes }) ≡ record (kept_of state) { scan = next; taken = left; nodes = kept }
+kept-by state scan next taken left nodes kept a b d = (cc)
 
 -- a prepared event is done
 pub kept-committed : (old between : ClusterState) (records : RecordsState) (prepared : PreparedEvent) → kept_of between ≡ node_changed prepared.node (kept_of old) → between.records ≡ old.records → records.kept ≡ applied_all between.records.kept prepared.changes

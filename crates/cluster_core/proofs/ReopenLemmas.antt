@@ -1,11 +1,12 @@
 -- A cluster that is opened over rows that were kept.
-use Rattle.std.proofs.Common.{◌≡◌, List, None, false, refl, sym, ap, subst, ◌∙◌}
+use Rattle.std.proofs.Common.{◌≡◌, ℕ, List, [], None, false, refl, sym, ap, subst, ◌∙◌}
 use Rattle.std.specs.List.{All}
 use Rattle.job_events.specs.declared.cluster.ClusterEvent.TheVariants.{Reopen}
 use Rattle.job_records.specs.Room.{RecordsState}
 use Rattle.job_records.specs.Rules.{KeepsRules}
 use Rattle.job_records.specs.Tables.{Tables}
 use Rattle.cluster_history.specs.declared.settings.Settings.{Settings}
+use Rattle.cluster_history.specs.declared.taken.TakenLog.{TakenLog}
 use Rattle.cluster_history.specs.History.{History, Begin, After}
 use Rattle.cluster_history.specs.Records.{records_of}
 use Rattle.cluster_history.specs.Replies.{reply_after}
@@ -29,9 +30,9 @@ opens-well s t rows is rules = record {
 }
 
 -- it stands for no entries over its rows
-pub stands-opened : (s : Settings) (t : Tables) (records : RecordsState) (nodes : List Node) → records.kept ≡ unsent_ended t → KeepsRules records.kept → AreIdle nodes
-    → Stands (kept_of (record { settings = s; records = records; scan = None; nodes = nodes })) (Begin (opening_over s records.kept))
-stands-opened s t records nodes is rules none =
+pub stands-opened : (s : Settings) (t : Tables) (records : RecordsState) (taken : List TakenLog) (nodes : List Node) → taken ≡ [] → records.kept ≡ unsent_ended t → KeepsRules records.kept → AreIdle nodes
+    → Stands (kept_of (record { settings = s; records = records; scan = None; taken = taken; taken_room = 0; nodes = nodes })) (Begin (opening_over s records.kept))
+stands-opened s t records taken nodes untaken is rules none =
     let well : OpensWell (opening_over s records.kept) = opens-well s t records.kept is rules in record {
       opens = well;
       within = tt;
@@ -40,21 +41,23 @@ stands-opened s t records nodes is rules none =
         settings = refl;
         tables = sym (openings-kept (opening_over s records.kept) well);
         scan = refl;
+        taken = untaken;
         nodes = idle-after (Begin (opening_over s records.kept)) nodes none (λ a. node-by _ _ _ _ _ _ refl (ring-none a) refl);
       };
     }
 
 -- and for each history that left the rows, with the stop of all behind it
-pub stands-on : (s : Settings) (t : Tables) (records : RecordsState) (nodes : List Node) → records.kept ≡ unsent_ended t → AreIdle nodes → (h : History) → Leaves h s t
-    → Stands (kept_of (record { settings = s; records = records; scan = None; nodes = nodes })) (After h Reopen (reply_after h Reopen))
-stands-on s t records nodes is none h left = record {
+pub stands-on : (s : Settings) (t : Tables) (records : RecordsState) (taken : List TakenLog) (nodes : List Node) → taken ≡ [] → records.kept ≡ unsent_ended t → AreIdle nodes → (h : History) → Leaves h s t
+    → Stands (kept_of (record { settings = s; records = records; scan = None; taken = taken; taken_room = 0; nodes = nodes })) (After h Reopen (reply_after h Reopen))
+stands-on s t records taken nodes untaken is none h left = record {
   opens = left.opens;
   within = (left.within, tt);
   answered = (left.answered, refl, refl);
   keeps = record {
     settings = sym left.settings;
-    tables = is ∙ ap unsent_ended (sym left.tables) ∙ ap (λ ls. record (records_of h) { logs = ls }) (sym (ended-unsent h left.opens));
+    tables = is ∙ ap unsent_ended (sym left.tables) ∙ ap (λ ls. record (records_of h) { logs = ls }) (sym (ended-unsent h left.opens left.answered));
     scan = refl;
+    taken = untaken;
     nodes = idle-after (After h Reopen (reply_after h Reopen)) nodes none (λ a. node-by _ _ _ _ _ _ refl (ring-none a) refl);
   };
 }

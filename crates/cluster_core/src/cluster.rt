@@ -3,7 +3,7 @@ ghost use Rattle.std.specs.Prelude.{◌≡◌, IfOk, OnErr};
 
 use super::nodes::idle_nodes;
 use super::plan::plan_event;
-use cluster_history::{Scan, Settings};
+use cluster_history::{Scan, Settings, TakenLog};
 use cluster_plan::{Node, Prepared, Seen};
 use job_events::{ClusterEvent, ClusterReply};
 use job_records::Records;
@@ -11,27 +11,45 @@ use job_values::{AdminNo, NoMemory};
 use std::alloc::Global;
 use std::marker::Model;
 use time_ring::TimeRing;
+use trigger_pool::Pools;
 
 /// The admins and what they share. Contracts see the rows, the open scan, and for each admin whether
-/// it runs, its ring and its pools.
+/// it runs, its ring, its pools and its picks, and the logs that were taken and not sent.
 #[derive(Drop)]
 pub struct Cluster {
     pub(crate) alloc: Global,
     pub(crate) settings: Settings,
     pub(crate) records: Records,
     pub(crate) scan: Option<Scan>,
+    // In order of their ids.
+    pub(crate) taken: Vec<TakenLog>,
     pub(crate) nodes: Vec<Node>,
 }
 
 impl Model for Cluster {
+    ghost use Rattle.std.specs.Prelude.{◌-◌, vec_len, vec_capacity};
     ghost use Rattle.cluster_core.specs.Kept.{ClusterState, kept_of};
     ghost use Rattle.cluster_plan.specs.Kept.{IsSound};
 
     ghost Value = { ClusterState };
 
-    ghost view = { λ c. record { settings = c.settings; records = c.records; scan = c.scan; nodes = c.nodes.items } };
+    ghost view = { λ c. record {
+      settings = c.settings;
+      records = c.records;
+      scan = c.scan;
+      taken = c.taken.items;
+      taken_room = vec_capacity c.taken - vec_len c.taken;
+      nodes = c.nodes.items;
+    } };
 
-    ghost invariant = { λ c. IsSound (kept_of (record { settings = c.settings; records = c.records; scan = c.scan; nodes = c.nodes.items })) };
+    ghost invariant = { λ c. IsSound (kept_of (record {
+      settings = c.settings;
+      records = c.records;
+      scan = c.scan;
+      taken = c.taken.items;
+      taken_room = vec_capacity c.taken - vec_len c.taken;
+      nodes = c.nodes.items;
+    })) };
 }
 
 impl Cluster {
@@ -45,7 +63,7 @@ impl Cluster {
     ghost use Rattle.cluster_core.specs.Plans.{IsPrepared};
     ghost use Rattle.cluster_core.specs.Stands.{StandsFor, Answers, owner_after};
     ghost use Rattle.cluster_history.specs.Records.{records_of};
-    ghost use Rattle.cluster_plan.specs.Stands.{ring_of};
+    ghost use Rattle.cluster_plan.specs.Stands.{ring_of, queues_of};
 
     /// A cluster without rows, in which no admin runs.
     pub fn new(alloc: Global, settings: Settings) -> Result<Cluster, NoMemory>
@@ -57,6 +75,7 @@ impl Cluster {
             settings,
             records: Records::new(alloc),
             scan: None,
+            taken: Vec::new(alloc),
             nodes,
         })
     }
@@ -66,6 +85,7 @@ impl Cluster {
         ensures settings { result.settings ≡ self.now.settings }
         ensures rows { result.records.now ≡ self.now.records }
         ensures scan { result.scan.now ≡ self.now.scan }
+        ensures taken { result.taken.now.items ≡ self.now.taken }
         ensures nodes { result.nodes.now.items ≡ self.now.nodes }
         ensures sound { IsSound (kept_of self.now) }
     {
@@ -74,6 +94,7 @@ impl Cluster {
             settings: self.settings,
             records: &self.records,
             scan: &self.scan,
+            taken: &self.taken,
             nodes: &self.nodes,
         }
     }
@@ -148,5 +169,12 @@ impl Cluster {
         ensures { (h : History) → StandsFor self.now h → result.now.slots ≡ ring_of (accepted h) admin }
     {
         &self.nodes[admin.get() as usize].ring
+    }
+
+    /// The logs that wait in the two pools of an admin, and the counts of its sendings.
+    pub fn pool(&self, admin: AdminNo) -> &Pools
+        ensures { (h : History) → StandsFor self.now h → result.now.kept ≡ queues_of (accepted h) admin }
+    {
+        &self.nodes[admin.get() as usize].pools
     }
 }

@@ -10,6 +10,7 @@ mod nodes;
 mod plan;
 mod reopen;
 mod room;
+mod sendings;
 mod steps;
 
 pub use cluster::Cluster;

@@ -7,11 +7,12 @@ ghost use Rattle.cluster_core.specs.Room.{ring_room, pool_room, HasRoomToPut};
 use cluster_plan::{Entering, Node};
 use job_values::limits::ADMINS;
 use job_values::{AdminNo, NoMemory, Seq};
+use route_strategies::Routes;
 use std::alloc::Global;
 use time_ring::{Ticket, TimeRing};
 use trigger_pool::Pools;
 
-/// An admin that does not run, without tickets and logs.
+/// An admin that does not run, without tickets, logs and picks.
 fn idle_node(alloc: Global) -> Result<Node, NoMemory>
     ensures { IfOk result (λ one. node_in one ≡ idle) }
 {
@@ -20,6 +21,7 @@ fn idle_node(alloc: Global) -> Result<Node, NoMemory>
         running: false,
         ring,
         pools: Pools::new(alloc),
+        routes: Routes::new(alloc),
     })
 }
 
@@ -70,13 +72,14 @@ pub fn start_at(nodes: &mut Vec<Node>, admin: AdminNo)
     nodes[admin.get() as usize].running = true;
 }
 
-/// An admin stops: its tickets and its logs are gone.
+/// An admin stops: its tickets, its logs and its picks are gone.
 fn stop(alloc: Global, node: &mut Node)
     ensures { node_in node.new ≡ idle }
 {
     node.running = false;
     node.ring.clear();
     node.pools = Pools::new(alloc);
+    node.routes = Routes::new(alloc);
 }
 
 /// One of the admins stops.

@@ -11,7 +11,10 @@ use job_plans::{
 };
 use job_values::NoMemory;
 use node_plans::{plan_ask, plan_read_log, plan_reopen, plan_start, plan_stop};
+use registry_plans::{plan_registry, plan_registry_remove, plan_sweep};
 use scan_plans::{plan_fire, plan_scan, plan_step, plan_turn};
+use send_plans::{plan_sent, plan_take};
+use settle_plans::{plan_callback, plan_clean, plan_lost, plan_monitor};
 
 /// What an event will answer and change.
 pub fn plan_event(seen: &Seen<'_>, event: &ClusterEvent) -> Result<Prepared, NoMemory>
@@ -39,6 +42,21 @@ pub fn plan_event(seen: &Seen<'_>, event: &ClusterEvent) -> Result<Prepared, NoM
         ClusterEvent::ScanBegin(admin, at) => plan_scan(seen, *admin, *at),
         ClusterEvent::ScanStep(admin) => plan_step(seen, *admin),
         ClusterEvent::Turn(admin, at) => plan_turn(seen, *admin, *at),
+        ClusterEvent::Take(admin, pool, at, word) => plan_take(seen, *admin, *pool, *at, *word),
+        ClusterEvent::Sent(log, address, code, start, end) => {
+            plan_sent(seen, *log, address, *code, *start, *end)
+        }
+        ClusterEvent::Callback(admin, at, item) => plan_callback(seen, *admin, *at, item),
+        ClusterEvent::Registry(at, group, key, value) => {
+            plan_registry(seen, *at, group, key, value)
+        }
+        ClusterEvent::RegistryRemove(group, key, value) => {
+            plan_registry_remove(seen, group, key, value)
+        }
+        ClusterEvent::Sweep(at) => plan_sweep(seen, *at),
+        ClusterEvent::Monitor(admin, at) => plan_monitor(seen, *admin, *at),
+        ClusterEvent::Lost(at) => plan_lost(seen, *at),
+        ClusterEvent::Clean(at) => plan_clean(seen, *at),
         ClusterEvent::ReadLog(log) => plan_read_log(seen, *log),
         ClusterEvent::Reopen => plan_reopen(seen),
     }

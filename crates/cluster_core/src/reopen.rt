@@ -42,6 +42,7 @@ impl Cluster {
             settings,
             records,
             scan: None,
+            taken: Vec::new(alloc),
             nodes,
         };
         Ok((cluster, told))

@@ -6,6 +6,7 @@ ghost use Rattle.cluster_core.specs.Room.{CanCommit};
 
 use super::cluster::Cluster;
 use super::nodes::reserve_at;
+use super::sendings::{reserve_count, reserve_pick};
 use cluster_plan::{NodeChange, Prepared};
 use job_values::NoMemory;
 
@@ -26,6 +27,11 @@ impl Cluster {
             NodeChange::Fires(admin, logs) => {
                 reserve_at(&mut self.nodes, *admin, &None, logs.len())
             }
+            NodeChange::Takes(admin, _, _, pick) => {
+                self.taken.reserve(1).map_err(|_| NoMemory)?;
+                reserve_pick(&mut self.nodes, *admin, pick)
+            }
+            NodeChange::Sends { admin, .. } => reserve_count(&mut self.nodes, *admin),
             _ => Ok(()),
         }
     }

@@ -1,6 +1,7 @@
 -- Counts of lists.
-use Rattle.std.proofs.Common.{◌≡◌, ℕ, ◌+◌, ◌≤◌, List, [], ◌∷◌, ◌++◌, Bool, true, false, cond, eqb, ◌&&◌, ◌||◌, not, map, length, refl, ap, arith}
+use Rattle.std.proofs.Common.{◌≡◌, ℕ, ◌+◌, ◌≤◌, List, [], ◌∷◌, ◌++◌, Bool, true, false, cond, eqb, ◌&&◌, ◌||◌, not, Option, Some, None, ◌<◌, map, length, refl, ap, arith}
 use Rattle.std.specs.List.{filter, count_by}
+use Rattle.job_records.specs.Rows.{row_with}
 use Rattle.std.proofs.lemmas.List.Sums.{sum_by-cons, sum_by-append}
 
 -- how often a number stands in a list
@@ -78,3 +79,16 @@ count-rest q s (x ∷ xs) =
 -- what a filter keeps is no more
 pub count-kept : {X : Type 0} (q s : X → Bool) (xs : List X) → count_by q (filter s xs) ≤ count_by q xs
 count-kept q s xs = omega (arith, count-filter q s xs, count-rest q s xs)
+
+-- what is counted is found
+pub counted-found : {R : Type 0} (id_of : R → ℕ) (passes : R → Bool) (n : ℕ) (rows : List R) → 0 < count_by (λ row. eqb (id_of row) n && passes row) rows
+    → row_with id_of n rows ≡ None → ⊥
+counted-found id_of passes n [] some none = let never : 0 < 0 = some in omega arith
+counted-found id_of passes n (row ∷ rows) some none = by (eqb (id_of row) n) refl none (λ more gone. counted-found id_of passes n rows more gone)
+  where
+    by : (b : Bool) → eqb (id_of row) n ≡ b → cond b (Some row) (row_with id_of n rows) ≡ None → (0 < count_by (λ r. eqb (id_of r) n && passes r) rows → row_with id_of n rows ≡ None → ⊥) → ⊥
+    by true test is later = (cc)
+    by false test is later =
+        let here : count_by (λ r. eqb (id_of r) n && passes r) (row ∷ rows) ≡ cond (eqb (id_of row) n && passes row) 1 0 + count_by (λ r. eqb (id_of r) n && passes r) rows = count-cons (λ r. eqb (id_of r) n && passes r) row rows in
+        let zero_ : cond {A = ℕ} (eqb (id_of row) n && passes row) 1 0 ≡ 0 = ap (λ t. cond {A = ℕ} (t && passes row) 1 0) test in
+        later (omega (arith, here, zero_, some)) is

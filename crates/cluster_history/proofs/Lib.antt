@@ -4,8 +4,9 @@ pub mod Marks
 pub mod Counting
 pub mod Unsent
 pub mod OpenLogs
-pub mod FastPools
+pub mod TakenLogs
 pub mod Answered
+pub mod Balance
 pub mod Running
 pub mod Stops
 pub mod Reopened

@@ -1,19 +1,21 @@
 -- The ids of a history's rows rise up to the last ids that were given.
-use Rattle.std.proofs.Common.{◌≡◌, ℕ, ◌+◌, ◌<◌, ◌≤◌, List, [], ◌∷◌, ◌++◌, Bool, true, false, cond, eqb, length, map, refl, sym, ap, ◌∙◌, subst, arith}
+use Rattle.std.proofs.Common.{◌≡◌, ℕ, ◌+◌, ◌<◌, ◌≤◌, List, [], ◌∷◌, ◌++◌, Bool, true, false, cond, eqb, Option, Some, None, length, map, refl, sym, ap, ◌∙◌, subst, arith}
 use Rattle.std.specs.List.{filter}
-use Rattle.job_events.specs.declared.cluster.ClusterEvent.TheVariants.{NodeStop, AddGroup, SetGroup, AddJob, RemoveJob, TriggerJob, ScanStep, Turn, Reopen}
+use Rattle.job_events.specs.declared.cluster.ClusterEvent.TheVariants.{NodeStop, AddGroup, SetGroup, AddJob, RemoveJob, TriggerJob, ScanStep, Turn, Sent, Callback, Sweep, Monitor, Lost, Clean, Reopen}
 use Rattle.job_records.specs.declared.job.Job.{Job}
 use Rattle.job_records.specs.declared.group.Group.{Group}
 use Rattle.job_records.specs.declared.log.Log.{Log}
 use Rattle.job_records.specs.Rows.{IsRising}
 use Rattle.job_records.proofs.RowLemmas.{rising-push}
 use Rattle.cluster_history.specs.History.{History, Begin, After, opening_of}
+use Rattle.job_values.specs.declared.limits.TheConstants.{FAILURE}
+use Rattle.cluster_history.specs.Registrations.{registry_of, rows_left, group_swept}
 use Rattle.cluster_history.specs.Groups.{groups_of, last_group}
 use Rattle.cluster_history.specs.Jobs.{ids_of, jobs_of, last_job, row_of}
 use Rattle.cluster_history.specs.Firings.{Shot, shots_stepped, shots_turned, shots_asked}
 use Rattle.cluster_history.specs.Openings.{Pools, Placed, placed_from, pool_of, one_more, pools_after, rows_of}
-use Rattle.cluster_history.specs.Settling.{ended_where, ended_log}
-use Rattle.cluster_history.specs.Logs.{is_open_of, is_open_of_any, logs_of, last_log, pools_of}
+use Rattle.cluster_history.specs.Settling.{log_changed, sent_log, ended_where, ended_log, settled_log, first_failed, marked_log, logs_marked, first_lost, lost_text, logs_lost}
+use Rattle.cluster_history.specs.Logs.{is_open_of, is_open_of_any, logs_of, last_log, pools_of, shots_called, shots_watched}
 use Rattle.cluster_history.specs.Runs.{OpensWell}
 
 -- rows that keep their ids keep their order
@@ -67,6 +69,7 @@ groups_rise (After h (AddGroup app kind addresses) r) well =
     rising-push (λ (group : Group). group.id) 0 (last_group h) (groups_of h) (record { id = last_group h + 1; app = app; kind = kind; addresses = addresses }) (groups_rise h well) (omega arith)
 groups_rise (After h (SetGroup id kind addresses) r) well =
     rising-mapped (λ (group : Group). group.id) _ (λ (group : Group). change-keeps id group (λ (g : Group). record { id = g.id; app = g.app; kind = kind; addresses = addresses }) (eqb group.id id) refl) 0 (last_group h) (groups_of h) (groups_rise h well)
+groups_rise (After h (Sweep at) r) well = rising-mapped (λ (group : Group). group.id) (group_swept (rows_left at (registry_of h))) (λ (group : Group). refl) 0 (last_group h) (groups_of h) (groups_rise h well)
 groups_rise (After h _ r) well = groups_rise h well
 
 -- the ids of the present jobs rise up to the last one
@@ -101,6 +104,22 @@ end-keeps log false = refl
 ended-rise : (is_open : Log → Bool) (low last : ℕ) (logs : List Log) → IsRising (λ log. log.id) low logs last → IsRising (λ log. log.id) low (ended_where is_open logs) last
 ended-rise is_open low last logs h = rising-mapped (λ (log : Log). log.id) (λ (log : Log). cond (is_open log) (ended_log log) log) (λ (log : Log). end-keeps log (is_open log)) low last logs h
 
+one-keeps : (f : Log → Log) → ((log : Log) → (f log).id ≡ log.id) → (log : Log) (b : Bool) → (cond b (f log) log).id ≡ log.id
+one-keeps f keeps log true = keeps log
+one-keeps f keeps log false = refl
+
+-- a change of one row that keeps its id
+pub changed-rise : (id : ℕ) (f : Log → Log) → ((log : Log) → (f log).id ≡ log.id) → (low last : ℕ) (logs : List Log) → IsRising (λ log. log.id) low logs last → IsRising (λ log. log.id) low (log_changed id f logs) last
+changed-rise id f keeps low last logs h = rising-mapped (λ (log : Log). log.id) (λ (log : Log). cond (eqb log.id id) (f log) log) (λ (log : Log). one-keeps f keeps log (eqb log.id id)) low last logs h
+
+pub marked-rise : (chosen : Option Log) (low last : ℕ) (logs : List Log) → IsRising (λ log. log.id) low logs last → IsRising (λ log. log.id) low (logs_marked chosen logs) last
+marked-rise None low last logs h = h
+marked-rise (Some log) low last logs h = changed-rise log.id marked_log (λ log. refl) low last logs h
+
+pub lost-rise : (at : ℕ) (chosen : Option Log) (low last : ℕ) (logs : List Log) → IsRising (λ log. log.id) low logs last → IsRising (λ log. log.id) low (logs_lost at chosen logs) last
+lost-rise at None low last logs h = h
+lost-rise at (Some log) low last logs h = changed-rise log.id (settled_log at FAILURE lost_text) (λ log. refl) low last logs h
+
 -- the ids of the logs rise up to the last one
 pub logs_rise : (h : History) → OpensWell (opening_of h) → IsRising (λ log. log.id) 0 (logs_of h) (last_log h)
 logs_rise (Begin o) well = well.rules.logs.rising
@@ -112,4 +131,13 @@ logs_rise (After h (Turn admin at) r) well =
     rising-behind (λ (log : Log). log.id) 0 (last_log h) (last_log h + length (shots_turned h admin at)) (logs_of h) _ (logs_rise h well) (placed-rise (last_log h) (pools_of h admin) (shots_turned h admin at))
 logs_rise (After h (TriggerJob admin at job param) r) well =
     rising-behind (λ (log : Log). log.id) 0 (last_log h) (last_log h + length (shots_asked h at job param)) (logs_of h) _ (logs_rise h well) (placed-rise (last_log h) (pools_of h admin) (shots_asked h at job param))
+logs_rise (After h (Callback admin at item) r) well =
+    rising-behind (λ (log : Log). log.id) 0 (last_log h) (last_log h + length (shots_called h at item.code item.log)) (log_changed item.log (settled_log at item.code item.msg) (logs_of h)) _
+    (changed-rise item.log (settled_log at item.code item.msg) (λ log. refl) 0 (last_log h) (logs_of h) (logs_rise h well)) (placed-rise (last_log h) (pools_of h admin) (shots_called h at item.code item.log))
+logs_rise (After h (Monitor admin at) r) well =
+    rising-behind (λ (log : Log). log.id) 0 (last_log h) (last_log h + length (shots_watched h at)) (logs_marked (first_failed (logs_of h)) (logs_of h)) _
+    (marked-rise (first_failed (logs_of h)) 0 (last_log h) (logs_of h) (logs_rise h well)) (placed-rise (last_log h) (pools_of h admin) (shots_watched h at))
+logs_rise (After h (Sent log address code start end) r) well = changed-rise log (sent_log address code) (λ log. refl) 0 (last_log h) (logs_of h) (logs_rise h well)
+logs_rise (After h (Lost at) r) well = lost-rise at (first_lost at (registry_of h) (logs_of h)) 0 (last_log h) (logs_of h) (logs_rise h well)
+logs_rise (After h (Clean at) r) well = rising-kept (λ (log : Log). log.id) _ 0 (last_log h) (logs_of h) (logs_rise h well)
 logs_rise (After h _ r) well = logs_rise h well

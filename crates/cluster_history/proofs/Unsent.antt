@@ -1,5 +1,5 @@
 -- How many logs with an id have no trigger code, after each change of the rows.
-use Rattle.std.proofs.Common.{◌≡◌, ℕ, ◌+◌, ◌<◌, ◌≤◌, List, [], ◌∷◌, ◌++◌, Bool, true, false, cond, eqb, ◌&&◌, is_some, Option, map, length, count_by, filter, refl, sym, ap, ◌∙◌, arith}
+use Rattle.std.proofs.Common.{◌≡◌, ℕ, ◌+◌, ◌<◌, ◌≤◌, List, [], ◌∷◌, ◌++◌, Bool, true, false, cond, eqb, ltb, ◌&&◌, not, is_some, Option, map, length, count_by, filter, refl, sym, ap, ◌∙◌, arith}
 use Rattle.std.proofs.lemmas.Bool.{false≢true}
 use Rattle.std.proofs.lemmas.Bool.Decides.{nat_tests}
 use Rattle.job_values.specs.declared.words.PoolAnswer.{PoolAnswer}
@@ -10,9 +10,9 @@ use Rattle.job_records.specs.Rows.{IsRising}
 use Rattle.job_records.proofs.RowLemmas.{rising-ends}
 use Rattle.cluster_history.specs.Firings.{Shot}
 use Rattle.cluster_history.specs.Openings.{Pools, Placed, placed_from, one_more, pool_of, log_of, rows_of, is_in, added_to}
-use Rattle.cluster_history.specs.Settling.{is_unsent, ended_log, ended_where}
+use Rattle.cluster_history.specs.Settling.{log_changed, is_unsent, ended_log, ended_where, is_old, logs_left}
 use Rattle.cluster_history.specs.Logs.{is_own, is_open_at, is_open_at_any}
-use Rattle.cluster_history.proofs.Counting.{times, count-cons, count-append, count-map, count-agree, count-none}
+use Rattle.cluster_history.proofs.Counting.{times, count-cons, count-append, count-map, count-agree, count-none, count-filter}
 
 -- how many of these have an id, and no trigger code
 abbrev pub unsent_in : ℕ → List Log → ℕ
@@ -20,6 +20,42 @@ unsent_in n logs = count_by (λ log. eqb log.id n && is_unsent log) logs
 
 pub unsent-append : (n : ℕ) (xs ys : List Log) → unsent_in n (xs ++ ys) ≡ unsent_in n xs + unsent_in n ys
 unsent-append n xs ys = count-append (λ (log : Log). eqb log.id n && is_unsent log) xs ys
+
+-- a change of a row that keeps its id and its code
+pub unsent-changed : (n id : ℕ) (f : Log → Log) → ((log : Log) → (f log).id ≡ log.id) → ((log : Log) → is_unsent (f log) ≡ is_unsent log) → (logs : List Log) → unsent_in n (log_changed id f logs) ≡ unsent_in n logs
+unsent-changed n id f keeps codes logs =
+    count-map (λ (log : Log). eqb log.id n && is_unsent log) (λ (log : Log). cond (eqb log.id id) (f log) log) logs
+    ∙ count-agree _ (λ (log : Log). eqb log.id n && is_unsent log) (λ log. by log (eqb log.id id)) logs
+  where
+    by : (log : Log) (b : Bool) → (eqb (cond b (f log) log).id n && is_unsent (cond b (f log) log)) ≡ (eqb log.id n && is_unsent log)
+    by log true = ap (λ i. eqb i n && is_unsent (f log)) (keeps log) ∙ ap (λ b. eqb log.id n && b) (codes log)
+    by log false = refl
+
+-- a log that is sent
+pub unsent-sent : (n id : ℕ) (f : Log → Log) → ((log : Log) → (f log).id ≡ log.id) → ((log : Log) → is_unsent (f log) ≡ false) → (logs : List Log) → unsent_in n (log_changed id f logs) ≡ cond (eqb n id) 0 (unsent_in n logs)
+unsent-sent n id f keeps codes logs = by (eqb n id) refl
+  where
+    off : (c : Bool) → (c && false) ≡ false
+    off true = refl
+    off false = refl
+
+    same : (log : Log) (b : Bool) → eqb log.id id ≡ b → eqb n id ≡ true → (eqb (cond b (f log) log).id n && is_unsent (cond b (f log) log)) ≡ false
+    same log true test here = ap (λ i. eqb i n && is_unsent (f log)) (keeps log) ∙ ap (λ c. eqb log.id n && c) (codes log) ∙ off (eqb log.id n)
+    same log false test here = let apart : eqb log.id n ≡ false = grind (arith, nat_tests) in ap (λ c. c && is_unsent log) apart
+
+    other : (log : Log) (b : Bool) → eqb log.id id ≡ b → eqb n id ≡ false → (eqb (cond b (f log) log).id n && is_unsent (cond b (f log) log)) ≡ (eqb log.id n && is_unsent log)
+    other log true test there =
+        let apart : eqb log.id n ≡ false = grind (arith, nat_tests) in
+        ap (λ i. eqb i n && is_unsent (f log)) (keeps log) ∙ ap (λ c. c && is_unsent (f log)) apart ∙ sym (ap (λ c. c && is_unsent log) apart)
+    other log false test there = refl
+
+    by : (b : Bool) → eqb n id ≡ b → unsent_in n (log_changed id f logs) ≡ cond b 0 (unsent_in n logs)
+    by true here =
+        count-map (λ (log : Log). eqb log.id n && is_unsent log) (λ (log : Log). cond (eqb log.id id) (f log) log) logs
+        ∙ count-none _ (λ log. same log (eqb log.id id) refl here) logs
+    by false there =
+        count-map (λ (log : Log). eqb log.id n && is_unsent log) (λ (log : Log). cond (eqb log.id id) (f log) log) logs
+        ∙ count-agree _ (λ (log : Log). eqb log.id n && is_unsent log) (λ log. other log (eqb log.id id) refl there) logs
 
 -- the logs of an admin are ended
 pub unsent-ended : (f : ℕ → Option ℕ) (n admin : ℕ) (logs : List Log) → unsent_in n (ended_where (λ log. is_open_at (f log.id) admin log) logs) ≡ cond (is_own (f n) admin) 0 (unsent_in n logs)
@@ -50,6 +86,18 @@ unsent-ended f n admin logs = by (is_own (f n) admin) refl
     by false none =
         count-map (λ (log : Log). eqb log.id n && is_unsent log) (λ (log : Log). cond (is_open_at (f log.id) admin log) (ended_log log) log) logs
         ∙ count-agree _ (λ (log : Log). eqb log.id n && is_unsent log) (λ log. other-one log (eqb log.id n) (is_own (f log.id) admin) (is_unsent log) refl refl refl none) logs
+
+-- a clean leaves the logs that wait to be sent
+pub unsent-left : (n at : ℕ) (logs : List Log) → unsent_in n (logs_left at logs) ≡ unsent_in n logs
+unsent-left n at logs =
+    count-filter (λ (log : Log). eqb log.id n && is_unsent log) (λ (log : Log). not (is_old at log)) logs
+    ∙ count-agree _ (λ (log : Log). eqb log.id n && is_unsent log) (λ log. by (eqb log.id n) (is_unsent log) (ltb log.time at)) logs
+  where
+    by : (b u o : Bool) → (not (o && not u) && (b && u)) ≡ (b && u)
+    by b u false = refl
+    by b true true = refl
+    by true false true = refl
+    by false false true = refl
 
 -- new logs are those that were put in the pools
 new-one : (n id : ℕ) (shot : Shot) (pool : PoolAnswer)
@@ -133,6 +181,26 @@ unsent-above n low last (log ∷ logs) rising above =
     let here = count-cons (λ (l : Log). eqb l.id n && is_unsent l) log logs in
     let none : cond {A = ℕ} (eqb log.id n && is_unsent log) 1 0 ≡ 0 = ap (λ b. cond {A = ℕ} (b && is_unsent log) 1 0) apart in
     omega (arith, here, none, unsent-above n log.id last logs rising.1 above)
+
+-- and at most one has an id
+pub unsent-once : (n low last : ℕ) (logs : List Log) → IsRising (λ log. log.id) low logs last → unsent_in n logs ≤ 1
+unsent-once n low last [] rising = omega arith
+unsent-once n low last (log ∷ logs) rising =
+    let here = count-cons (λ (l : Log). eqb l.id n && is_unsent l) log logs in
+    by (eqb log.id n) refl here (unsent-once n log.id last logs rising.1)
+  where
+    at-most : (c : Bool) → unsent_in n (log ∷ logs) ≡ cond {A = ℕ} c 1 0 + unsent_in n logs → unsent_in n logs ≡ 0 → unsent_in n (log ∷ logs) ≤ 1
+    at-most true is none = omega (arith, is, none)
+    at-most false is none = omega (arith, is, none)
+
+    by : (b : Bool) → eqb log.id n ≡ b → unsent_in n (log ∷ logs) ≡ cond {A = ℕ} (eqb log.id n && is_unsent log) 1 0 + unsent_in n logs → unsent_in n logs ≤ 1 → unsent_in n (log ∷ logs) ≤ 1
+    by true test here later =
+        let same : log.id ≡ n = grind (arith, nat_tests) in
+        let rest : unsent_in n logs ≡ 0 = unsent-high n log.id last logs rising.1 (omega arith) in
+        at-most (eqb log.id n && is_unsent log) here rest
+    by false test here later =
+        let none : cond {A = ℕ} (eqb log.id n && is_unsent log) 1 0 ≡ 0 = ap (λ c. cond {A = ℕ} (c && is_unsent log) 1 0) test in
+        omega (arith, here, none, later)
 
 -- the logs of all admins are ended
 pub unsent-ended_all : (f : ℕ → Option ℕ) (n : ℕ) (logs : List Log) → unsent_in n (ended_where (λ log. is_open_at_any (f log.id) log) logs) ≡ cond (is_some (f n)) 0 (unsent_in n logs)

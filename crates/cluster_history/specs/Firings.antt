@@ -1,5 +1,5 @@
 -- Which jobs an entry fires, and for which shards.
-use Rattle.std.specs.Prelude.{ℕ, List, [], ◌∷◌, ◌++◌, map, length, max, Option, Some, None, unwrap_or, if◌then◌else◌}
+use Rattle.std.specs.Prelude.{ℕ, ◌-◌, ℤ, List, [], ◌∷◌, ◌++◌, map, length, max, nat_lt, Option, Some, None, unwrap_or, if◌then◌else◌}
 use Rattle.std.specs.List.{range_with_len}
 use Rattle.job_values.specs.declared.words.Route.{Route}
 use Rattle.job_values.specs.declared.words.Route.TheVariants.{ShardingBroadcast}
@@ -9,12 +9,14 @@ use Rattle.job_values.specs.declared.words.Case.{Case}
 use Rattle.job_values.specs.declared.words.Case.TheVariants as case
 use Rattle.job_records.specs.declared.job.Job.{Job}
 use Rattle.job_records.specs.declared.group.Group.{Group}
+use Rattle.job_records.specs.declared.log.Log.{Log}
 use Rattle.cluster_history.specs.declared.scan.Scan.{Scan}
 use Rattle.cluster_history.specs.History.{History}
 use Rattle.cluster_history.specs.Groups.{groups_of, group_with, addresses_in}
 use Rattle.cluster_history.specs.Looks.{Looked, job_with}
 use Rattle.cluster_history.specs.Jobs.{jobs_of, scan_of, look_of}
 use Rattle.cluster_history.specs.Tickets.{Waiting, waiting, taken, second_of}
+use Rattle.cluster_history.specs.Settling.{children_of}
 
 -- one log that a firing of a job is to open: the job's row, the parameter, why and when it fires, the shard, and how often it may be tried again
 pub record Shot : Type 0 where
@@ -95,3 +97,34 @@ shots_turned h admin at = shots_for (groups_of h) (jobs_of h) at (taken admin (s
 -- the logs that a firing of a job by hand is to open, in order
 abbrev pub shots_asked : History → ℕ → ℕ → Option (List ℕ) → List Shot
 shots_asked h at job param = shots_by_hand (groups_of h) param at (job_with job (jobs_of h))
+
+-- what these jobs fire, one after another
+abbrev pub shots_each : List Group → List Job → TriggerKind → ℕ → List ℕ → List Shot
+shots_each groups jobs kind time [] = []
+shots_each groups jobs kind time (id ∷ ids) = shots_if groups kind time (job_with id jobs) ++ shots_each groups jobs kind time ids
+
+-- the logs that the result of a log is to open, in order of the children
+abbrev pub shots_settled : List Group → List Job → ℕ → ℤ → Option Log → List Shot
+shots_settled groups jobs time code log = shots_each groups jobs kind.Parent time (children_of jobs code log)
+
+-- the log that tries another one again: of the job as it is now, with the parameter and the shard of that log, and one try less
+abbrev pub shot_again : ℕ → Log → Job → Shot
+shot_again time log row = record {
+  row = row;
+  param = log.param;
+  kind = kind.Retry;
+  time = time;
+  index = log.index;
+  total = log.total;
+  retries = log.retries - 1;
+}
+
+-- none where the job is gone
+abbrev pub shots_again : ℕ → Log → Option Job → List Shot
+shots_again time log None = []
+shots_again time log (Some row) = shot_again time log row ∷ []
+
+-- what a marked log is to open: one log, where it may be tried again
+abbrev pub shots_marked : List Job → ℕ → Option Log → List Shot
+shots_marked jobs time None = []
+shots_marked jobs time (Some log) = if nat_lt 0 log.retries then shots_again time log (job_with log.job jobs) else []

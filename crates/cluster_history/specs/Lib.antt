@@ -2,6 +2,7 @@ pub mod History
 pub mod Entries
 pub mod Nodes
 pub mod Zones
+pub mod Registrations
 pub mod Groups
 pub mod Pages
 pub mod Looks
@@ -11,8 +12,8 @@ pub mod Firings
 pub mod Openings
 pub mod Settling
 pub mod Logs
+pub mod Orders
 pub mod Replies
-pub mod Registrations
 pub mod Runs
 pub mod Records
 pub mod Numbers

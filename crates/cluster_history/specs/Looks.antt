@@ -1,23 +1,19 @@
 -- What the steps of a scan look at.
 use Rattle.std.specs.Prelude.{ℕ, ◌==◌, List, slice_get, Option, Some, None, if◌then◌else◌}
 use Rattle.job_records.specs.declared.job.Job.{Job}
-use Rattle.job_records.specs.Rows.{row_with}
 use Rattle.misfire_rules.specs.declared.decision.Decision.{Decision}
 use Rattle.cluster_history.specs.declared.settings.Settings.{Settings}
 use Rattle.cluster_history.specs.declared.scan.Scan.{Scan}
 use Rattle.cluster_history.specs.declared.scan.PageEntry.{PageEntry}
 use Rattle.misfire_rules.specs.Decide.{decided}
 use Rattle.cluster_history.specs.Zones.{zone_of}
+pub use Rattle.settle_log.specs.Results.{job_with}
 
 -- a look at the row of a job: its due time, and what is decided
 pub record Looked : Type 0 where
   pub row : Job
   pub due : ℕ
   pub decision : Decision
-
--- the row of the job with this id, if it is there
-abbrev pub job_with : ℕ → List Job → Option Job
-job_with id jobs = row_with (λ job. job.id) id jobs
 
 -- a stopped job has no due time and is not looked at
 abbrev pub look_due : Settings → ℕ → Job → Option ℕ → Option Looked

@@ -1,6 +1,6 @@
 -- The limits of the scheduler, as numbers.
 use Rattle.std.specs.Prelude.{◌≡◌, ◌^◌, ◌-◌, pos}
-use Rattle.job_values.specs.declared.limits.TheConstants.{LOOK_AHEAD, MISFIRE_WINDOW, JOBS_PER_THREAD, ADMINS, LAST_ADMIN, SLOTS, SECOND, MINUTE, FAST_LIMIT, SLOW_LIMIT, SLOW_ABOVE, LATE_ABOVE, LAST_MOMENT, LAST_EDITION, LAST_JOB_ID, LAST_LOG_ID, MOST_GROUPS, MOST_JOBS, MOST_REGISTRATIONS, MOST_OF_KEY, SUCCESS, FAILURE}
+use Rattle.job_values.specs.declared.limits.TheConstants.{LOOK_AHEAD, MISFIRE_WINDOW, JOBS_PER_THREAD, ADMINS, LAST_ADMIN, SLOTS, SECOND, MINUTE, FAST_LIMIT, SLOW_LIMIT, SLOW_ABOVE, LATE_ABOVE, DEAD_AFTER, LOST_AFTER, LAST_MOMENT, LAST_EDITION, LAST_JOB_ID, LAST_LOG_ID, MOST_GROUPS, MOST_JOBS, MOST_REGISTRATIONS, MOST_OF_KEY, SUCCESS, FAILURE}
 
 -- each as its number
 pub record TheNumbers : Type 0 where
@@ -10,6 +10,8 @@ pub record TheNumbers : Type 0 where
   pub second : SECOND ≡ 1000
   pub minute : MINUTE ≡ 60000
   pub late_above : LATE_ABOVE ≡ 500
+  pub dead_after : DEAD_AFTER ≡ 90000
+  pub lost_after : LOST_AFTER ≡ 600000
   pub last_moment : LAST_MOMENT ≡ 4102444799999
   -- how many
   pub jobs_per_thread : JOBS_PER_THREAD ≡ 20

@@ -1,13 +1,15 @@
 -- The reply of each event: the first refusal that applies, in order, else what was done.
-use Rattle.std.specs.Prelude.{ℕ, ◌+◌, ◌-◌, ◌^◌, ℤ, min, sum, List, [], ◌∷◌, map, length, Bool, true, false, nat_lt, is_some, Option, Some, None, Result, Ok, Err, slice_get, ◌==◌, if◌then◌else◌}
+use Rattle.std.specs.Prelude.{ℕ, ◌+◌, ◌-◌, ◌^◌, ℤ, min, sum, List, [], ◌∷◌, map, length, count_by, codes, bytes_eq, Bool, true, false, ◌&&◌, nat_lt, is_some, Option, Some, None, Result, Ok, Err, slice_get, ◌==◌, if◌then◌else◌}
 use Rattle.job_values.specs.declared.limits.TheConstants.{LAST_JOB_ID, LAST_LOG_ID}
 use Rattle.job_events.specs.declared.shown_log.ShownLog.{ShownLog}
 use Rattle.job_events.specs.declared.opened.FiredTicket.{FiredTicket}
+use Rattle.job_events.specs.declared.opened.FiredChild.{FiredChild}
+use Rattle.job_values.specs.declared.words.TriggerKind.TheVariants.{Parent}
 use Rattle.job_values.specs.declared.fault.ScheduleFault.{ScheduleFault}
 use Rattle.job_events.specs.declared.cluster.ClusterEvent.{ClusterEvent}
-use Rattle.job_events.specs.declared.cluster.ClusterEvent.TheVariants.{NodeStart, NodeStop, NodeAsk, AddGroup, SetGroup, AddJob, UpdateJob, StartJob, StopJob, RemoveJob, TriggerJob, ScanBegin, ScanStep, Turn, ReadLog, Reopen}
+use Rattle.job_events.specs.declared.cluster.ClusterEvent.TheVariants.{NodeStart, NodeStop, NodeAsk, AddGroup, SetGroup, AddJob, UpdateJob, StartJob, StopJob, RemoveJob, TriggerJob, ScanBegin, ScanStep, Turn, Take, Sent, Callback, Registry, RegistryRemove, Sweep, Monitor, Lost, Clean, ReadLog, Reopen}
 use Rattle.job_events.specs.declared.cluster.ClusterRefusal.{ClusterRefusal}
-use Rattle.job_events.specs.declared.cluster.ClusterRefusal.TheVariants.{NodeRunning, NodeStopped, Busy, NotScanning, NoGroup, NoJob, NoLog, BadSchedule, BadZone, NoNext, TooMany, IdsSpent}
+use Rattle.job_events.specs.declared.cluster.ClusterRefusal.TheVariants.{NodeRunning, NodeStopped, Busy, NotScanning, Empty, BadCode, AlreadySent, NotTaken, WrongAddress, Repeat, BadRegistry, NothingDone, NoGroup, NoJob, NoLog, BadSchedule, BadZone, NoNext, TooMany, IdsSpent}
 use Rattle.job_events.specs.declared.cluster.ClusterReply.{ClusterReply}
 use Rattle.job_events.specs.declared.cluster.ClusterReply.TheVariants as reply
 use Rattle.job_values.specs.declared.fault.ZoneFault.{ZoneFault}
@@ -29,10 +31,16 @@ use Rattle.cluster_history.specs.Groups.{groups_of, last_group, group_with}
 use Rattle.cluster_history.specs.Looks.{Looked, job_with}
 use Rattle.cluster_history.specs.Jobs.{jobs_of, last_job, scan_of, look_of, page_of, first_time, updated_time}
 use Rattle.cluster_history.specs.Tickets.{Waiting, waiting, waiting_at, taken, second_of}
-use Rattle.cluster_history.specs.Firings.{Shot, shots_stepped, shots_turned, shots_taken, shots_asked}
+use Rattle.cluster_history.specs.Registrations.{registry_of, is_dead, limit_passed}
+use Rattle.cluster_history.specs.Firings.{Shot, shots_stepped, shots_turned, shots_taken, shots_if, shots_asked}
 use Rattle.cluster_history.specs.Openings.{Pools, placed_from, pools_after, opened_of}
-use Rattle.cluster_history.specs.Settling.{log_with}
-use Rattle.cluster_history.specs.Logs.{logs_of, last_log, pools_of, open_at}
+use Rattle.std.specs.Ordering.{int_eq}
+use Rattle.std.specs.List.{list_any}
+use Rattle.job_values.specs.declared.limits.TheConstants.{SUCCESS}
+use Rattle.cluster_history.specs.declared.taken.TakenLog.{TakenLog}
+use Rattle.cluster_history.specs.Orders.{front_of, choice_of, order_by, taken_of, taken_log}
+use Rattle.cluster_history.specs.Settling.{log_with, is_unsent, is_positive, is_settled, children_of, first_failed, first_lost, is_old}
+use Rattle.cluster_history.specs.Logs.{logs_of, last_log, pools_of, open_at, shots_called, shots_watched}
 
 -- the reply that refuses
 abbrev pub refused : ClusterRefusal → ClusterReply
@@ -212,6 +220,72 @@ fire_reply last pools shots None = refused NoJob
 fire_reply last pools shots (Some row) =
     if_ids last (length shots) (reply.Opened (map opened_of (placed_from last pools shots)))
 
+-- a code that is not positive is refused
+abbrev pub if_positive : ℤ → ClusterReply → ClusterReply
+if_positive code answer = if is_positive code then answer else refused BadCode
+
+-- by the first log of the pool
+abbrev pub take_reply : History → ℕ → ℕ → Option Log → ClusterReply
+take_reply h admin word None = refused Empty
+take_reply h admin word (Some log) = reply.Took (order_by log (choice_of h admin word log))
+
+-- by the addresses that a take gave; no address goes with no success
+abbrev pub given_reply : Option (List ℕ) → ℤ → List (List ℕ) → ClusterReply
+given_reply None code given = if int_eq code SUCCESS then refused WrongAddress else reply.Done
+given_reply (Some address) code given = if list_any (λ one. bytes_eq one address) given then reply.Done else refused WrongAddress
+
+-- by what was kept when the log was taken
+abbrev pub taken_reply : Option (List ℕ) → ℤ → Option TakenLog → ClusterReply
+taken_reply address code None = refused NotTaken
+taken_reply address code (Some taken) = given_reply address code taken.addresses
+
+-- by the row of the log
+abbrev pub sent_reply : Option (List ℕ) → ℤ → Option TakenLog → Option Log → ClusterReply
+sent_reply address code taken None = refused NoLog
+sent_reply address code taken (Some log) = if is_unsent log then taken_reply address code taken else refused (AlreadySent log.trigger_code)
+
+-- what is told of a child that fired
+abbrev pub child_by : ℕ → ℕ → Pools → List Shot → FiredChild
+child_by job last pools shots = record { job = job; opened = map opened_of (placed_from last pools shots) }
+
+-- the children that fired, each with the logs that it opened
+abbrev pub children_from : List Group → List Job → ℕ → ℕ → Pools → List ℕ → List FiredChild
+children_from groups jobs at last pools [] = []
+children_from groups jobs at last pools (id ∷ ids) =
+    child_by id last pools (shots_if groups Parent at (job_with id jobs))
+    ∷ children_from groups jobs at (last + length (shots_if groups Parent at (job_with id jobs))) (pools_after pools (shots_if groups Parent at (job_with id jobs))) ids
+
+-- by the row of the log: it gets one result, and fires its children where that is a success
+abbrev pub settle_reply : List Group → List Job → ℕ → Pools → List Shot → ℕ → ℤ → Option Log → ClusterReply
+settle_reply groups jobs last pools shots at code None = refused NoLog
+settle_reply groups jobs last pools shots at code (Some log) =
+    if is_settled log
+    then refused (Repeat log.result_code)
+    else if_ids last (length shots) (reply.Settled code (children_from groups jobs at last pools (children_of jobs code (Some log))))
+
+-- by the first failed log: the log that tries it again
+abbrev pub mark_reply : ℕ → Pools → List Shot → Option Log → ClusterReply
+mark_reply last pools shots None = refused NothingDone
+mark_reply last pools shots (Some log) = if_ids last (length shots) (reply.Marked log.id (map opened_of (placed_from last pools shots)))
+
+-- by the first lost log
+abbrev pub lost_reply : Option Log → ClusterReply
+lost_reply None = refused NothingDone
+lost_reply (Some log) = reply.Lost log.id
+
+-- whether a call is one of executors, and names an app and an address
+abbrev pub is_named : List ℕ → List ℕ → List ℕ → Bool
+is_named group key value = bytes_eq group (codes "EXECUTOR") && (nat_lt 0 (length key) && nat_lt 0 (length value))
+
+-- a call that is not is refused before all else
+abbrev pub if_named : List ℕ → List ℕ → List ℕ → ClusterReply → ClusterReply
+if_named group key value answer = if is_named group key value then answer else refused BadRegistry
+
+-- by the limit that a new registration would pass
+abbrev pub place_reply : Option ℕ → ClusterReply
+place_reply None = reply.Done
+place_reply (Some limit) = refused (TooMany limit)
+
 -- the reply that an event has after accepted entries
 abbrev pub reply_after : History → ClusterEvent → ClusterReply
 reply_after h (NodeStart admin) = start_reply (runs h admin) admin
@@ -237,6 +311,20 @@ reply_after h (Turn admin at) =
     if_running (runs h admin) admin
     (if_ids (last_log h) (length (shots_turned h admin at))
     (reply.Fired (fired_from (groups_of h) (jobs_of h) at (last_log h) (pools_of h admin) (taken admin (second_of at) (waiting h)))))
+reply_after h (Take admin pool at word) = if_running (runs h admin) admin (take_reply h admin word (front_of h admin pool))
+reply_after h (Sent log address code start end) =
+    if_positive code (sent_reply address code (taken_log log (taken_of h)) (log_with log (logs_of h)))
+reply_after h (Callback admin at item) =
+    if_running (runs h admin) admin
+    (if_positive item.code
+    (settle_reply (groups_of h) (jobs_of h) (last_log h) (pools_of h admin) (shots_called h at item.code item.log) at item.code (log_with item.log (logs_of h))))
+reply_after h (Registry at group key value) = if_named group key value (place_reply (limit_passed key value (registry_of h)))
+reply_after h (RegistryRemove group key value) = if_named group key value reply.Done
+reply_after h (Sweep at) = reply.Swept (count_by (is_dead at) (registry_of h))
+reply_after h (Monitor admin at) =
+    if_running (runs h admin) admin (mark_reply (last_log h) (pools_of h admin) (shots_watched h at) (first_failed (logs_of h)))
+reply_after h (Lost at) = lost_reply (first_lost at (registry_of h) (logs_of h))
+reply_after h (Clean at) = reply.Cleaned (count_by (is_old at) (logs_of h))
 reply_after h (ReadLog log) = log_reply (log_with log (logs_of h))
 reply_after h Reopen =
     reply.Reopened (counted_to (over_running h (waiting_at h))) (over_running h (open_at h))

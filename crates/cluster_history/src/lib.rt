@@ -5,6 +5,8 @@
 pub mod laws;
 pub mod scan;
 pub mod settings;
+pub mod taken;
 
 pub use scan::{PageEntry, Scan};
 pub use settings::Settings;
+pub use taken::TakenLog;

@@ -10,7 +10,15 @@ pub mod ToldLemmas
 pub mod FatesToldLemmas
 pub mod FiredLogLemmas
 pub mod OpenedLemmas
+pub mod RowsTold
 pub mod CodeLemmas
 pub mod QueueLemmas
 pub mod ScanPlaceLemmas
+pub mod FoundRows
+pub mod OnceRows
+pub mod SettleLemmas
+pub mod ResultLemmas
+pub mod ChildLemmas
+pub mod RegisteredLemmas
+pub mod ListLemmas
 mod Rows

@@ -1,18 +1,22 @@
 -- The logs that a reply tells are those that its event opened.
-use Rattle.std.proofs.Common.{◌≡◌, ℕ, ◌+◌, ◌<◌, ◌≤◌, List, [], ◌∷◌, ◌++◌, Bool, true, false, cond, eqb, ltb, leb, nat_lt, ◌&&◌, is_some, Option, Some, None, length, map, filter, refl, sym, ap, ◌∙◌, arith}
+use Rattle.std.proofs.Common.{◌≡◌, ℕ, ◌+◌, ◌<◌, ◌≤◌, ℤ, List, [], ◌∷◌, ◌++◌, Bool, true, false, cond, eqb, ltb, leb, nat_lt, ◌&&◌, is_some, Option, Some, None, length, map, filter, refl, sym, ap, ◌∙◌, arith}
 use Rattle.std.specs.List.{flat_map, AllByRecursion, slice_get}
 use Rattle.std.proofs.lemmas.List.{map-append}
 use Rattle.std.proofs.lemmas.Bool.Decides.{nat_tests}
 use Rattle.job_values.specs.declared.limits.TheConstants.{LAST_LOG_ID}
 use Rattle.job_values.specs.declared.words.PoolAnswer.{PoolAnswer}
 use Rattle.job_values.specs.declared.words.PoolKind.{PoolKind}
-use Rattle.job_events.specs.declared.cluster.ClusterEvent.TheVariants.{ScanStep, Turn, TriggerJob}
+use Rattle.job_values.specs.declared.words.TriggerKind.TheVariants.{Parent}
+use Rattle.job_values.specs.declared.run.CallbackItem.{CallbackItem}
+use Rattle.job_events.specs.declared.cluster.ClusterEvent.TheVariants.{ScanStep, Turn, TriggerJob, Callback, Monitor}
 use Rattle.job_events.specs.declared.cluster.ClusterReply.{ClusterReply}
 use Rattle.job_events.specs.declared.cluster.ClusterReply.TheVariants as reply
 use Rattle.job_events.specs.declared.cluster.ClusterRefusal.TheVariants as refusal
 use Rattle.job_events.specs.declared.opened.FiredTicket.{FiredTicket}
+use Rattle.job_events.specs.declared.opened.FiredChild.{FiredChild}
 use Rattle.job_records.specs.declared.group.Group.{Group}
 use Rattle.job_records.specs.declared.job.Job.{Job}
+use Rattle.job_records.specs.declared.log.Log.{Log}
 use Rattle.cluster_history.specs.declared.scan.Scan.{Scan}
 use Rattle.cluster_history.specs.declared.scan.PageEntry.{PageEntry}
 use Rattle.cluster_history.specs.History.{History, Begin, After, places, is_refusal}
@@ -21,10 +25,11 @@ use Rattle.cluster_history.specs.Groups.{groups_of}
 use Rattle.cluster_history.specs.Looks.{Looked, job_with}
 use Rattle.cluster_history.specs.Jobs.{jobs_of, scan_of, look_of}
 use Rattle.cluster_history.specs.Tickets.{Waiting, waiting, taken, second_of}
-use Rattle.cluster_history.specs.Firings.{Shot, shots_for, shots_taken, shots_scanned, shots_stepped, shots_turned, shots_asked}
+use Rattle.cluster_history.specs.Firings.{Shot, shots_if, shots_each, shots_settled, shots_for, shots_taken, shots_scanned, shots_stepped, shots_turned, shots_asked}
 use Rattle.cluster_history.specs.Openings.{Pools, Placed, placed_from, pool_of, one_more, pools_after, opened_of, is_in, added_to}
-use Rattle.cluster_history.specs.Logs.{is_behind, opener_after, opener_of, last_log, pools_of, placed_at}
-use Rattle.cluster_history.specs.Replies.{if_running, entry_reply, step_reply, fire_reply, fired_from, refused}
+use Rattle.cluster_history.specs.Settling.{log_with, is_positive, is_settled, children_of, first_failed}
+use Rattle.cluster_history.specs.Logs.{is_behind, opener_after, opener_of, logs_of, last_log, pools_of, placed_at, shots_called, shots_watched}
+use Rattle.cluster_history.specs.Replies.{if_running, entry_reply, step_reply, fire_reply, fired_from, children_from, settle_reply, mark_reply, refused}
 use Rattle.cluster_history.specs.Runs.{IsAnswered}
 use Rattle.cluster_history.proofs.RowIds.{placed-append}
 use Rattle.cluster_laws.specs.Opened.{told_opened, told_in, pool_told, OpenedAt, opened_at, opened_in}
@@ -105,6 +110,56 @@ row-tells true admin last pools shots (Some row) r is ok = fire-tells_by true (n
 pub fire-tells : (h : History) (admin at job : ℕ) (param : Option (List ℕ)) (r : ClusterReply) → IsAnswered (After h (TriggerJob admin at job param) r) → Tells r (placed_at h admin (shots_asked h at job param))
 fire-tells h admin at job param r answered =
     row-tells (runs h admin) admin (last_log h) (pools_of h admin) (shots_asked h at job param) (job_with job (jobs_of h)) r answered.1 answered.2
+
+-- the logs of the children, child by child
+children-opened : (groups : List Group) (jobs : List Job) (at last : ℕ) (pools : Pools) (ids : List ℕ)
+    → flat_map (λ (child : FiredChild). child.opened) (children_from groups jobs at last pools ids) ≡ map opened_of (placed_from last pools (shots_each groups jobs Parent at ids))
+children-opened groups jobs at last pools [] = refl
+children-opened groups jobs at last pools (id ∷ ids) =
+    let shots : List Shot = shots_if groups Parent at (job_with id jobs) in
+    ap (λ more. map opened_of (placed_from last pools shots) ++ more) (children-opened groups jobs at (last + length shots) (pools_after pools shots) ids)
+    ∙ sym (map-append opened_of (placed_from last pools shots) (placed_from (last + length shots) (pools_after pools shots) (shots_each groups jobs Parent at ids)))
+    ∙ ap (map opened_of) (sym (placed-append last pools shots (shots_each groups jobs Parent at ids)))
+
+-- a result
+settled-tells : (settled spent : Bool) (kept code : ℤ) (placed : List Placed) (children : List FiredChild) (r : ClusterReply) → flat_map (λ (child : FiredChild). child.opened) children ≡ map opened_of placed
+    → r ≡ cond settled (refused (refusal.Repeat kept)) (cond spent (refused refusal.IdsSpent) (reply.Settled code children)) → is_refusal r ≡ false → Tells r placed
+settled-tells true spent kept code placed children r tells is ok = (cc)
+settled-tells false true kept code placed children r tells is ok = (cc)
+settled-tells false false kept code placed children r tells is ok = ap told_opened is ∙ tells
+
+settle-tells : (groups : List Group) (jobs : List Job) (last : ℕ) (pools : Pools) (at : ℕ) (code : ℤ) (row : Option Log) (r : ClusterReply)
+    → r ≡ settle_reply groups jobs last pools (shots_settled groups jobs at code row) at code row → is_refusal r ≡ false → Tells r (placed_from last pools (shots_settled groups jobs at code row))
+settle-tells groups jobs last pools at code None r is ok = (cc)
+settle-tells groups jobs last pools at code (Some log) r is ok =
+    settled-tells (is_settled log) (nat_lt LAST_LOG_ID (last + length (shots_settled groups jobs at code (Some log)))) log.result_code code (placed_from last pools (shots_settled groups jobs at code (Some log)))
+    (children_from groups jobs at last pools (children_of jobs code (Some log))) r (children-opened groups jobs at last pools (children_of jobs code (Some log))) is ok
+
+call-tells_by : (b positive : Bool) (admin : ℕ) (answer r : ClusterReply) (placed : List Placed) → (r ≡ answer → is_refusal r ≡ false → Tells r placed)
+    → r ≡ if_running b admin (cond positive answer (refused refusal.BadCode)) → is_refusal r ≡ false → Tells r placed
+call-tells_by false positive admin answer r placed tells is ok = (cc)
+call-tells_by true false admin answer r placed tells is ok = (cc)
+call-tells_by true true admin answer r placed tells is ok = tells is ok
+
+pub call-tells : (h : History) (admin at : ℕ) (item : CallbackItem) (r : ClusterReply) → IsAnswered (After h (Callback admin at item) r) → Tells r (placed_at h admin (shots_called h at item.code item.log))
+call-tells h admin at item r answered =
+    call-tells_by (runs h admin) (is_positive item.code) admin
+    (settle_reply (groups_of h) (jobs_of h) (last_log h) (pools_of h admin) (shots_called h at item.code item.log) at item.code (log_with item.log (logs_of h))) r (placed_at h admin (shots_called h at item.code item.log))
+    (settle-tells (groups_of h) (jobs_of h) (last_log h) (pools_of h admin) at item.code (log_with item.log (logs_of h)) r) answered.1 answered.2
+
+-- a monitor
+mark-tells_by : (spent : Bool) (log : ℕ) (placed : List Placed) (r : ClusterReply) → r ≡ cond spent (refused refusal.IdsSpent) (reply.Marked log (map opened_of placed)) → is_refusal r ≡ false → Tells r placed
+mark-tells_by true log placed r is ok = (cc)
+mark-tells_by false log placed r is ok = ap told_opened is
+
+watch-tells_by : (b : Bool) (admin last : ℕ) (pools : Pools) (shots : List Shot) (log : Option Log) (r : ClusterReply) → r ≡ if_running b admin (mark_reply last pools shots log) → is_refusal r ≡ false → Tells r (placed_from last pools shots)
+watch-tells_by false admin last pools shots log r is ok = (cc)
+watch-tells_by true admin last pools shots None r is ok = (cc)
+watch-tells_by true admin last pools shots (Some log) r is ok = mark-tells_by (nat_lt LAST_LOG_ID (last + length shots)) log.id (placed_from last pools shots) r is ok
+
+pub watch-tells : (h : History) (admin at : ℕ) (r : ClusterReply) → IsAnswered (After h (Monitor admin at) r) → Tells r (placed_at h admin (shots_watched h at))
+watch-tells h admin at r answered =
+    watch-tells_by (runs h admin) admin (last_log h) (pools_of h admin) (shots_watched h at) (first_failed (logs_of h)) r answered.1 answered.2
 
 -- a log is told where its id is one of the next ones
 lower-same : (last id : ℕ) → eqb (last + 1) id ≡ false → (b c : Bool) → ltb (last + 1) id ≡ b → ltb last id ≡ c → b ≡ c
@@ -203,6 +258,9 @@ opener-told (Begin o) answered id = refl
 opener-told (After h (ScanStep admin) r) answered id = opener-step h admin id (shots_stepped h) r (step-tells h admin r answered) (opener-told h answered.0 id)
 opener-told (After h (Turn admin at) r) answered id = opener-step h admin id (shots_turned h admin at) r (turn-tells h admin at r answered) (opener-told h answered.0 id)
 opener-told (After h (TriggerJob admin at job param) r) answered id = opener-step h admin id (shots_asked h at job param) r (fire-tells h admin at job param r answered) (opener-told h answered.0 id)
+opener-told (After h (Callback admin at item) r) answered id =
+    opener-step h admin id (shots_called h at item.code item.log) r (call-tells h admin at item r answered) (opener-told h answered.0 id)
+opener-told (After h (Monitor admin at) r) answered id = opener-step h admin id (shots_watched h at) r (watch-tells h admin at r answered) (opener-told h answered.0 id)
 opener-told (After h _ r) answered id = opener-told h answered.0 id
 
 -- the place of the entry that opened a log is not behind the last one
@@ -218,6 +276,10 @@ opened-within (After h (ScanStep admin) r) id opened is =
 opened-within (After h (Turn admin at) r) id opened is =
     earlier-place (places h + 1) admin (places h + 1) (pool_told id (told_opened r)) (opened_in h id) opened (omega arith) (λ one e. omega (arith, opened-within h id one e)) is
 opened-within (After h (TriggerJob admin at job param) r) id opened is =
+    earlier-place (places h + 1) admin (places h + 1) (pool_told id (told_opened r)) (opened_in h id) opened (omega arith) (λ one e. omega (arith, opened-within h id one e)) is
+opened-within (After h (Callback admin at item) r) id opened is =
+    earlier-place (places h + 1) admin (places h + 1) (pool_told id (told_opened r)) (opened_in h id) opened (omega arith) (λ one e. omega (arith, opened-within h id one e)) is
+opened-within (After h (Monitor admin at) r) id opened is =
     earlier-place (places h + 1) admin (places h + 1) (pool_told id (told_opened r)) (opened_in h id) opened (omega arith) (λ one e. omega (arith, opened-within h id one e)) is
 opened-within (After h _ r) id opened is = omega (arith, opened-within h id opened is)
 

@@ -1,4 +1,4 @@
--- Worked rows: the fates of tickets, codes of logs and scans of short lists of events.
+-- Worked rows: the fates of tickets, codes and results of logs, scans, children and registrations of short lists of events.
 use Rattle.std.proofs.Common.{◌≡◌, ℕ, List, [], ◌∷◌, Some, None, map, codes, pos, refl}
 use Rattle.job_values.specs.declared.words.PoolKind.TheVariants.{Fast as FastPool}
 use Rattle.job_values.specs.declared.spec.JobSpec.{JobSpec}
@@ -6,7 +6,7 @@ use Rattle.job_values.specs.declared.words.ScheduleKind.TheVariants.{FixRate}
 use Rattle.job_values.specs.declared.words.Misfire.TheVariants.{DoNothing}
 use Rattle.job_values.specs.declared.words.Route.TheVariants.{First}
 use Rattle.job_values.specs.declared.words.Block.TheVariants.{SerialExecution}
-use Rattle.job_values.specs.declared.words.GroupKind.TheVariants.{Manual}
+use Rattle.job_values.specs.declared.words.GroupKind.TheVariants.{Auto, Manual}
 use Rattle.job_events.specs.declared.cluster.ClusterEvent.{ClusterEvent}
 use Rattle.job_events.specs.declared.cluster.ClusterEvent.TheVariants as event
 use Rattle.zone_texts.specs.Parsed.{zone_parsed}
@@ -19,6 +19,11 @@ use Rattle.cluster_laws.specs.Told.{lost_at}
 use Rattle.cluster_laws.specs.Codes.{code_told}
 use Rattle.cluster_laws.specs.Queues.{added_of}
 use Rattle.cluster_laws.specs.ScanPlaces.{last_begin, scan_by}
+use Rattle.cluster_laws.specs.Settles.{times_settled, times_marked}
+use Rattle.cluster_laws.specs.Results.{no_result, result_told}
+use Rattle.cluster_laws.specs.Children.{children_started, times_started}
+use Rattle.cluster_laws.specs.Registered.{standing}
+use Rattle.cluster_laws.specs.Lists.{given_in, last_sweep}
 
 -- a job that is due every so many seconds
 abbrev every : List ℕ → JobSpec
@@ -101,3 +106,49 @@ one_step_left = refl
 none_left : scan_by (scan_of_two (event.ScanStep 0 ∷ [])) (last_begin (scan_of_two (event.ScanStep 0 ∷ []))) ≡ None
 unfolding plan_of zone_parsed
 none_left = refl
+
+-- a result of a log, with this code
+abbrev result_of : ℕ → ℕ → ClusterEvent
+result_of log code = event.Callback 0 105000 (record { log = log; log_moment = 0; code = pos code; msg = [] })
+
+-- job 1 has job 2 as a child; log 1 gets a failure and then, in vain, a success, and is marked once; log 2 gets a success
+abbrev parent_and_child : History
+parent_and_child =
+    run_of (event.AddJob (record (every (codes "10")) { children = 2 ∷ [] }) ∷ event.AddJob (every (codes "10")) ∷ event.TriggerJob 0 101000 1 None ∷ event.TriggerJob 0 102000 1 None ∷ result_of 1 500 ∷ result_of 1 200 ∷ event.Monitor 0 106000 ∷ event.Monitor 0 107000 ∷ result_of 2 200
+    ∷ [])
+
+settled_of_three : map (times_settled parent_and_child) (1 ∷ 2 ∷ 3 ∷ []) ≡ 1 ∷ 1 ∷ 0 ∷ []
+unfolding plan_of zone_parsed
+settled_of_three = refl
+
+marked_of_three : map (times_marked parent_and_child) (1 ∷ 2 ∷ 3 ∷ []) ≡ 1 ∷ 0 ∷ 0 ∷ []
+unfolding plan_of zone_parsed
+marked_of_three = refl
+
+results_of_three : map (result_told parent_and_child) (1 ∷ 2 ∷ 3 ∷ []) ≡ record { time = Some 105000; code = pos 500; text = [] } ∷ record { time = Some 105000; code = pos 200; text = [] } ∷ no_result ∷ []
+unfolding plan_of zone_parsed
+results_of_three = refl
+
+started_of_three : map (times_started parent_and_child) (1 ∷ 2 ∷ 3 ∷ []) ≡ 0 ∷ 1 ∷ 0 ∷ []
+unfolding plan_of zone_parsed
+started_of_three = refl
+
+-- what a result of log 1 would start then, by its code
+children_by_code : map (λ code. children_started parent_and_child (result_of 1 code)) (200 ∷ 500 ∷ []) ≡ (2 ∷ []) ∷ [] ∷ []
+unfolding plan_of zone_parsed
+children_by_code = refl
+
+-- e1 beats at 1000, e2 at 1001 and e3 at 2000 and says that it is gone; the sweep ninety seconds behind the beat of e2 drops e1 alone, and another app is not swept away
+abbrev three_executors : History
+three_executors =
+    run_of (event.AddGroup (codes "app") Auto [] ∷ event.Registry 1000 (codes "EXECUTOR") (codes "app") (codes "e1") ∷ event.Registry 1001 (codes "EXECUTOR") (codes "app") (codes "e2") ∷ event.Registry 2000 (codes "EXECUTOR") (codes "app") (codes "e3")
+    ∷ event.Registry 2000 (codes "ADMIN") (codes "app") (codes "e4") ∷ event.RegistryRemove (codes "EXECUTOR") (codes "app") (codes "e3") ∷ event.Sweep 91001 ∷ [])
+
+standing_of_four : map (standing three_executors (codes "app")) (codes "e1" ∷ codes "e2" ∷ codes "e3" ∷ codes "e4" ∷ []) ≡ None ∷ Some 1001 ∷ None ∷ None ∷ []
+standing_of_four = refl
+
+swept_at : last_sweep three_executors ≡ 9
+swept_at = refl
+
+given_at : map (given_in three_executors) (2 ∷ 3 ∷ []) ≡ Some (record { place = 4; app = codes "app"; kind = Auto; addresses = [] }) ∷ None ∷ []
+given_at = refl

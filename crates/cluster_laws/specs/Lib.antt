@@ -10,3 +10,8 @@ pub mod Codes
 pub mod Queues
 pub mod OpenLogs
 pub mod ScanPlaces
+pub mod Settles
+pub mod Results
+pub mod Children
+pub mod Registered
+pub mod Lists

@@ -4,9 +4,9 @@ use Rattle.std.specs.List.{flat_map}
 use Rattle.job_values.specs.declared.words.PoolAnswer.{PoolAnswer}
 use Rattle.job_values.specs.declared.words.PoolKind.{PoolKind}
 use Rattle.job_events.specs.declared.opened.Opened.{Opened as OpenedLog}
-use Rattle.job_events.specs.declared.cluster.ClusterEvent.TheVariants.{ScanStep, Turn, TriggerJob}
+use Rattle.job_events.specs.declared.cluster.ClusterEvent.TheVariants.{ScanStep, Turn, TriggerJob, Callback, Monitor}
 use Rattle.job_events.specs.declared.cluster.ClusterReply.{ClusterReply}
-use Rattle.job_events.specs.declared.cluster.ClusterReply.TheVariants.{Look, Fired, Opened}
+use Rattle.job_events.specs.declared.cluster.ClusterReply.TheVariants.{Look, Fired, Opened, Settled, Marked}
 use Rattle.cluster_history.specs.History.{History, Begin, After, places}
 use Rattle.cluster_history.specs.Openings.{is_in}
 
@@ -15,6 +15,8 @@ abbrev pub told_opened : ClusterReply → List OpenedLog
 told_opened (Look job case due next put opened) = opened
 told_opened (Fired tickets) = flat_map (λ ticket. ticket.opened) tickets
 told_opened (Opened opened) = opened
+told_opened (Settled code children) = flat_map (λ child. child.opened) children
+told_opened (Marked log opened) = opened
 told_opened _ = []
 
 -- those of them that it tells as put in a pool
@@ -43,4 +45,6 @@ opened_in (Begin o) id = None
 opened_in (After h (ScanStep admin) r) id = opened_at (places h + 1) admin (pool_told id (told_opened r)) (opened_in h id)
 opened_in (After h (Turn admin at) r) id = opened_at (places h + 1) admin (pool_told id (told_opened r)) (opened_in h id)
 opened_in (After h (TriggerJob admin at job param) r) id = opened_at (places h + 1) admin (pool_told id (told_opened r)) (opened_in h id)
+opened_in (After h (Callback admin at item) r) id = opened_at (places h + 1) admin (pool_told id (told_opened r)) (opened_in h id)
+opened_in (After h (Monitor admin at) r) id = opened_at (places h + 1) admin (pool_told id (told_opened r)) (opened_in h id)
 opened_in (After h _ r) id = opened_in h id

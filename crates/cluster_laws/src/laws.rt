@@ -7,8 +7,13 @@ ghost use Rattle.cluster_laws.specs.Told.{EachFateTold};
 ghost use Rattle.cluster_laws.specs.FiredLogs.{EachFiringOpens};
 ghost use Rattle.cluster_laws.specs.Codes.{CodesByEntries};
 ghost use Rattle.cluster_laws.specs.Queues.{QueuesAreLeft};
-ghost use Rattle.cluster_laws.specs.OpenLogs.{EachOpenQueued};
+ghost use Rattle.cluster_laws.specs.OpenLogs.{EachOpenHeld};
 ghost use Rattle.cluster_laws.specs.ScanPlaces.{ScansByPlace};
+ghost use Rattle.cluster_laws.specs.Settles.{EachSettledOnce};
+ghost use Rattle.cluster_laws.specs.Results.{ResultsByEntries};
+ghost use Rattle.cluster_laws.specs.Children.{ChildrenOnce};
+ghost use Rattle.cluster_laws.specs.Registered.{RegistrationsStand};
+ghost use Rattle.cluster_laws.specs.Lists.{ListsByEntries};
 
 use cron_schedule::laws::law_after_rises;
 
@@ -46,8 +51,8 @@ pub fn law_fates()
     law_after_rises();
 }
 
-/// The trigger code of a log is that of failure where no pool had room for it, or where a stop of its
-/// admin or of all stands behind its opening, and else none.
+/// The trigger code of a log is that of failure where no pool had room for it; else that of its sending;
+/// else that of failure where a stop of its admin or of all stands behind its opening, and else none.
 pub fn law_codes()
     ensures { CodesByEntries }
 {}
@@ -58,13 +63,36 @@ pub fn law_queues()
     ensures { QueuesAreLeft }
 {}
 
-/// The logs of an admin without a trigger code are those that wait in its pools.
+/// The logs of an admin without a trigger code are those that wait in its pools, and those that it took.
 pub fn law_open_logs()
-    ensures { EachOpenQueued }
+    ensures { EachOpenHeld }
 {}
 
 /// The open scan is that of the last begin: the page of the entries before it, with fewer steps since
 /// than the page has entries, and no stop of its owner or of all.
 pub fn law_scan_places()
     ensures { ScansByPlace }
+{}
+
+/// A log gets its result at most once, by a callback or as a lost one, and none where the opening has it
+/// with one; and it is marked at most once. What opens logs of children is a result of success: just those
+/// of the children of its log's job, which the reply tells in order; a log starts its children at most once.
+pub fn law_settle()
+    ensures once { EachSettledOnce }
+    ensures children { ChildrenOnce }
+{}
+
+/// The result of a log is what the entry gave that settled it, or what the opening has of it; and it is
+/// marked where a monitor marked it, or the opening has it so.
+pub fn law_results()
+    ensures { ResultsByEntries }
+{}
+
+/// A registration stands with the moment of its last beat, unless its removal came since, or a sweep
+/// more than ninety seconds behind the beat. The list of an automatic group that was swept since it was
+/// given is what stood under its app right behind the last sweep, sorted by bytes, each once; any other
+/// list is the one that was given last.
+pub fn law_registrations()
+    ensures rows { RegistrationsStand }
+    ensures lists { ListsByEntries }
 {}

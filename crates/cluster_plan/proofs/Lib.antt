@@ -6,3 +6,6 @@ pub mod StandsLemmas
 pub mod PutLemmas
 pub mod RowPlans
 pub mod JobRows
+pub mod SentLemmas
+pub mod PickLemmas
+pub mod TakenLemmas

@@ -10,6 +10,7 @@ use Rattle.job_records.specs.Changes.{applied_all, AreAllowed}
 use Rattle.cluster_history.specs.History.{History, After, accepted, is_refusal}
 use Rattle.cluster_history.specs.Nodes.{admins}
 use Rattle.cluster_history.specs.Jobs.{scan_of}
+use Rattle.cluster_history.specs.Orders.{taken_of}
 use Rattle.cluster_history.specs.Runs.{IsWithin}
 use Rattle.cluster_history.specs.Replies.{reply_of}
 use Rattle.cluster_plan.specs.declared.prepared.NodeChange.TheVariants as node
@@ -20,9 +21,10 @@ use Rattle.cluster_plan.specs.Stands.{Stands, node_of}
 use Rattle.cluster_history.specs.Records.{records_of}
 use Rattle.cluster_plan.proofs.PlanLemmas.{planned}
 
--- an entry leaves the scan, and what is kept of the admins, as they are
+-- an entry leaves the scan, the taken logs, and what is kept of the admins, as they are
 pub record LeavesNodes (h : History) (e : ClusterEvent) (r : ClusterReply) : Type 0 where
   pub scan : scan_of h ≡ scan_of (After h e r)
+  pub taken : taken_of h ≡ taken_of (After h e r)
   pub nodes : map (node_of h) admins ≡ map (node_of (After h e r)) admins
 
 -- changes that are allowed, and make of the rows what the entry makes of them, answer an event that leaves the nodes
@@ -36,6 +38,7 @@ planned-rows kept e r changes allowed ids within accepts leaves replies rows =
       settings = s.keeps.settings;
       tables = ap (λ (t : Tables). applied_all t changes) s.keeps.tables ∙ rows h s;
       scan = s.keeps.scan ∙ (leaves h).scan;
+      taken = s.keeps.taken ∙ (leaves h).taken;
       nodes = s.keeps.nodes ∙ (leaves h).nodes;
     })
 

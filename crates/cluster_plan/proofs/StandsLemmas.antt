@@ -4,11 +4,12 @@ use Rattle.std.specs.Prelude.{slice_set}
 use Rattle.job_values.specs.declared.limits.TheConstants.{ADMINS}
 use Rattle.time_ring.specs.declared.ticket.Ticket.{Ticket}
 use Rattle.trigger_pool.specs.Pool.{Queues}
+use Rattle.route_strategies.specs.Picks.{PickCounts}
 use Rattle.cluster_history.specs.History.{History}
 use Rattle.cluster_history.specs.Nodes.{admins}
 use Rattle.cluster_plan.specs.Nodes.{NodeKept, idle, stopped, node_at, nodes_with}
 use Rattle.cluster_plan.specs.Kept.{Kept, ring_at, pools_at}
-use Rattle.cluster_plan.specs.Stands.{Stands, ring_of, queues_of, node_of}
+use Rattle.cluster_plan.specs.Stands.{Stands, ring_of, queues_of, routes_of, node_of}
 use Rattle.cluster_plan.proofs.AdminLemmas.{at-admin, map-same, map-mapped, set-range_as}
 
 -- what is kept of an admin
@@ -23,9 +24,13 @@ ring-stands kept h admin below s = ap (λ (one : NodeKept). one.ring) (node-stan
 pub pools-stand : (kept : Kept) (h : History) (admin : ℕ) → admin < ADMINS → Stands kept h → pools_at kept admin ≡ queues_of h admin
 pools-stand kept h admin below s = ap (λ (one : NodeKept). one.pools) (node-stands kept h admin below s)
 
+-- its picks
+pub routes-stand : (kept : Kept) (h : History) (admin : ℕ) → admin < ADMINS → Stands kept h → (node_at kept.nodes admin).routes ≡ routes_of h admin
+routes-stand kept h admin below s = ap (λ (one : NodeKept). one.routes) (node-stands kept h admin below s)
+
 -- what is kept of an admin, by its parts
-pub node-by : (running more : Bool) (ring slots : List (List Ticket)) (pools queues : Queues) → running ≡ more → ring ≡ slots → pools ≡ queues
-    → ◌≡◌ {A = NodeKept} (record { running = running; ring = ring; pools = pools }) (record { running = more; ring = slots; pools = queues })
+pub node-by : {routes : List (ℕ × PickCounts)} (running more : Bool) (ring slots : List (List Ticket)) (pools queues : Queues) → running ≡ more → ring ≡ slots → pools ≡ queues
+    → ◌≡◌ {A = NodeKept} (record { running = running; ring = ring; pools = pools; routes = routes }) (record { running = more; ring = slots; pools = queues; routes = routes })
 node-by running more ring slots pools queues a b d = (cc)
 
 -- what is kept of the admins after an entry that changes one of them

@@ -9,14 +9,17 @@ use Rattle.cluster_history.specs.Openings.{Pools}
 use Rattle.job_values.specs.declared.limits.TheConstants.{ADMINS, FAST_LIMIT, SLOW_LIMIT, SLOW_ABOVE}
 use Rattle.cluster_history.specs.declared.settings.Settings.{Settings}
 use Rattle.cluster_history.specs.declared.scan.Scan.{Scan}
+use Rattle.cluster_history.specs.declared.taken.TakenLog.{TakenLog}
+use Rattle.job_records.specs.Rows.{RisesFrom}
 use Rattle.cluster_plan.specs.declared.seen.Seen.{Seen}
 use Rattle.cluster_plan.specs.Nodes.{NodeKept, node_in, node_at}
 
--- what a cluster keeps: the settings, the rows, the open scan, and a record for each admin
+-- what a cluster keeps: the settings, the rows, the open scan, the logs that were taken and not sent, and a record for each admin
 pub record Kept : Type 0 where
   pub settings : Settings
   pub tables : Tables
   pub scan : Option Scan
+  pub taken : List TakenLog
   pub nodes : List NodeKept
 
 -- what is lent of it
@@ -25,6 +28,7 @@ kept_in seen = record {
   settings = seen.settings;
   tables = seen.records.now.kept;
   scan = seen.scan.now;
+  taken = seen.taken.now.items;
   nodes = map node_in seen.nodes.now.items;
 }
 
@@ -53,8 +57,9 @@ pub record IsWithinLimits (queues : Queues) : Type 0 where
   pub fast : length queues.fast ≤ FAST_LIMIT
   pub slow : length queues.slow ≤ SLOW_LIMIT
 
--- each admin has its place, the rows keep their rules, and no pool has more logs than it takes
+-- each admin has its place, the rows keep their rules, the ids of the taken logs rise, and no pool has more logs than it takes
 pub record IsSound (kept : Kept) : Type 0 where
   pub nodes : length kept.nodes ≡ ADMINS
   pub rules : KeepsRules kept.tables
+  pub taken : RisesFrom (λ t. t.log) 0 kept.taken
   pub limits : (admin : ℕ) → IsWithinLimits (pools_at kept admin)

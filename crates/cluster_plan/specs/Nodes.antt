@@ -2,24 +2,29 @@
 use Rattle.std.specs.Prelude.{ℕ, List, [], ◌∷◌, slice_index_or, slice_set, Bool, true, false, Option, Some, None}
 use Rattle.time_ring.specs.declared.ticket.Ticket.{Ticket}
 use Rattle.time_ring.specs.Ring.{with_ticket, after_turn, no_tickets}
-use Rattle.trigger_pool.specs.Pool.{Queues, no_logs, with_log, answer_at}
-use Rattle.trigger_pool.specs.Reports.{late_count}
+use Rattle.job_values.specs.declared.words.PoolKind.{PoolKind}
+use Rattle.trigger_pool.specs.Pool.{Queues, no_logs, with_log, answer_at, without_first, with_sending}
+use Rattle.trigger_pool.specs.Reports.{Sending, late_count}
+use Rattle.route_strategies.specs.Picks.{PickCounts}
+use Rattle.route_strategies.specs.State.{with_pick}
 use Rattle.cluster_plan.specs.declared.node.Node.{Node}
 use Rattle.cluster_plan.specs.declared.prepared.Entering.{Entering}
+use Rattle.cluster_plan.specs.declared.prepared.Pick.{Pick}
 
--- what is kept of an admin: whether it runs, the sixty lists of its ring, and the two queues of its pools
+-- what is kept of an admin: whether it runs, the sixty lists of its ring, the two queues of its pools with the counts of its sendings, and of each job the counts of its picks
 pub record NodeKept : Type 0 where
   pub running : Bool
   pub ring : List (List Ticket)
   pub pools : Queues
+  pub routes : List (ℕ × PickCounts)
 
 -- the same of a node, without its room
 abbrev pub node_in : Node → NodeKept
-node_in one = record { running = one.running; ring = one.ring.slots; pools = one.pools.kept }
+node_in one = record { running = one.running; ring = one.ring.slots; pools = one.pools.kept; routes = one.routes.kept }
 
--- an admin that does not run: no ticket waits, and no log
+-- an admin that does not run: no ticket waits, and no log, and nothing was sent or picked
 abbrev pub idle : NodeKept
-idle = record { running = false; ring = no_tickets; pools = no_logs }
+idle = record { running = false; ring = no_tickets; pools = no_logs; routes = [] }
 
 -- what is kept of an admin, of what is kept of each
 abbrev pub node_at : List NodeKept → ℕ → NodeKept
@@ -63,3 +68,16 @@ after_ring second logs one = record one { ring = after_turn one.ring second; poo
 -- an admin that fired by hand: its logs are in the pools
 abbrev pub after_firing : List Entering → NodeKept → NodeKept
 after_firing logs one = record one { pools = entered one.pools logs }
+
+-- picks with one more, if there is one
+abbrev pub routes_with : List (ℕ × PickCounts) → Option Pick → List (ℕ × PickCounts)
+routes_with routes None = routes
+routes_with routes (Some pick) = with_pick routes pick.job pick.address
+
+-- an admin that took the first log of a pool: it picked an address, if it did
+abbrev pub after_take : PoolKind → Option Pick → NodeKept → NodeKept
+after_take pool pick one = record one { pools = without_first one.pools pool; routes = routes_with one.routes pick }
+
+-- an admin that sent a log
+abbrev pub after_sending : Sending → NodeKept → NodeKept
+after_sending sending one = record one { pools = with_sending one.pools sending }

@@ -8,6 +8,6 @@ pub mod seen;
 pub mod zones;
 
 pub use node::Node;
-pub use prepared::{Entering, NodeChange, Prepared};
+pub use prepared::{Entering, NodeChange, Pick, Prepared};
 pub use seen::Seen;
 pub use zones::{zone_of, zone_said};

@@ -3,10 +3,10 @@ ghost use Rattle.std.specs.Prelude.{◌≡◌, []};
 ghost use Rattle.job_events.specs.declared.cluster.ClusterReply.TheVariants.{Refused};
 ghost use Rattle.cluster_plan.specs.declared.prepared.NodeChange.TheVariants as node;
 
-use cluster_history::Scan;
+use cluster_history::{Scan, TakenLog};
 use job_events::{ClusterRefusal, ClusterReply};
 use job_records::Change;
-use job_values::{AdminNo, JobId, LogId, Seq};
+use job_values::{Address, AdminNo, JobId, LogId, Moment, PoolKind, Seq};
 use std::alloc::Global;
 use std::marker::Model;
 use time_ring::Ticket;
@@ -18,13 +18,20 @@ pub struct Entering {
     pub job: JobId,
 }
 
+/// An address that was picked for a job.
+#[derive(Drop)]
+pub struct Pick {
+    pub job: JobId,
+    pub address: Address,
+}
+
 /// What an event changes beside the rows.
 #[derive(Drop)]
 pub enum NodeChange {
     Nothing,
     /// The admin runs.
     Starts(AdminNo),
-    /// The admin stops: its scan ends, its ring and its pools are emptied.
+    /// The admin stops: its scan ends, its ring and its pools are emptied, its taken logs and picks forgotten.
     Stops(AdminNo),
     /// Every admin stops.
     StopsAll,
@@ -36,6 +43,16 @@ pub enum NodeChange {
     Turns(AdminNo, u64, Seq<Entering>),
     /// The logs go into the pools of the admin.
     Fires(AdminNo, Seq<Entering>),
+    /// The admin takes the first log of this pool, and with it picks an address, if it does.
+    Takes(AdminNo, PoolKind, TakenLog, Option<Pick>),
+    /// A taken log of the admin is sent; the sending was for this job, from a moment to another.
+    Sends {
+        admin: AdminNo,
+        log: LogId,
+        job: JobId,
+        start: Moment,
+        end: Moment,
+    },
 }
 
 /// What an event will answer and change. It is good for the state that it was prepared on alone.

@@ -7,7 +7,7 @@ ghost use Rattle.cluster_plan.specs.Kept.{IsSound, kept_in, pools_at};
 ghost use Rattle.cluster_plan.specs.Stands.{Stands};
 
 use super::node::Node;
-use cluster_history::{Scan, Settings};
+use cluster_history::{Scan, Settings, TakenLog};
 use job_records::Records;
 use job_values::AdminNo;
 use std::alloc::Global;
@@ -21,6 +21,8 @@ pub struct Seen<'a> {
     pub settings: Settings,
     pub records: &'a Records,
     pub scan: &'a Option<Scan>,
+    /// The logs that were taken and not sent, in order of their ids.
+    pub taken: &'a Vec<TakenLog>,
     pub nodes: &'a Vec<Node>,
 }
 

@@ -13,3 +13,4 @@ pub mod Lanes
 pub mod Items
 pub mod Places
 pub mod Kept
+pub mod Queue

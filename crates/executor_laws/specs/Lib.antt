@@ -1,3 +1,4 @@
 pub mod Given
 pub mod Results
 pub mod Kept
+pub mod Queue

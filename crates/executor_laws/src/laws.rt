@@ -1,5 +1,5 @@
 //! The laws of an executor: what holds of every legal history.
-ghost use Rattle.std.specs.Prelude.{◌≡◌, ◌+◌, ◌≤◌, ◌==◌, ℕ, Bool, false, List, [], ◌∷◌, ◌++◌, Some, find, length};
+ghost use Rattle.std.specs.Prelude.{◌≡◌, ◌+◌, ◌≤◌, ◌==◌, ◌&&◌, ℕ, Bool, false, List, [], ◌∷◌, ◌++◌, Some, find, length, if◌then◌else◌};
 ghost use Rattle.std.specs.List.{AllByRecursion as Each};
 ghost use Rattle.job_values.specs.declared.run.CallbackItem.{CallbackItem};
 ghost use Rattle.job_values.specs.declared.run.Run.{Run};
@@ -7,13 +7,17 @@ ghost use Rattle.job_events.specs.declared.executor.ExecutorEvent.{ExecutorEvent
 ghost use Rattle.job_events.specs.declared.executor.ExecutorReply.{ExecutorReply};
 ghost use Rattle.job_events.specs.declared.executor.ExecutorEvent.TheVariants as event;
 ghost use Rattle.executor_history.specs.History.{History, After, accepted, is_refusal};
-ghost use Rattle.executor_history.specs.Past.{held, is_among, known, known_of, on_runners};
+ghost use Rattle.job_lane.specs.Runs.{is_running};
+ghost use Rattle.executor_history.specs.declared.records.Queued.{Queued};
+ghost use Rattle.executor_history.specs.declared.records.Working.{Working};
+ghost use Rattle.executor_history.specs.Past.{held, is_among, known, known_of, queued, on_runners};
 ghost use Rattle.executor_history.specs.Places.{Entry, after_all, places, before, entry_at};
 ghost use Rattle.executor_history.specs.Replies.{reply_of};
 ghost use Rattle.executor_history.specs.Runs.{is_running_of};
 ghost use Rattle.executor_history.specs.Legal.{IsLegal};
 ghost use Rattle.executor_laws.specs.Given.{RunItem, times, gives, given, items_of, kept_items, acknowledged};
 ghost use Rattle.executor_laws.specs.Kept.{is_held, known_at};
+ghost use Rattle.executor_laws.specs.Queue.{waits, runs, IsAccepted, InOrder};
 ghost use Rattle.executor_laws.specs.Results.{result_of, result_in, result_told, IsOfRun, BeganEmpty, batch_told};
 
 /// No run of a log is accepted while its id is held; each run is given at most one item; and the items that are kept
@@ -32,9 +36,19 @@ pub fn law_results()
     ensures batch { (h : History) (e : ExecutorEvent) → BeganEmpty h → Each (IsOfRun (accepted h)) (batch_told (reply_of h e)) }
 {}
 
-/// At most one run of a job runs.
+/// The queue is the runs that were accepted and have neither Poll nor result, each once, in order of acceptance and
+/// as it was accepted.
+pub fn law_queue()
+    ensures waits { (h : History) (number : ℕ) → IsLegal h → times (λ (q : Queued). number == q.run.number) (queued (accepted h)) ≡ (if waits (accepted h) number then 1 else 0) }
+    ensures order { (h : History) → InOrder (queued h) }
+    ensures are { (h : History) → Each (IsAccepted h) (queued h) }
+{}
+
+/// At most one run of a job runs; and those that run are the runs that have their Poll, were not ended and have no
+/// result.
 pub fn law_lanes()
-    ensures { (h : History) (job : ℕ) → times (is_running_of job) (on_runners h) ≤ 1 }
+    ensures one { (h : History) (job : ℕ) → times (is_running_of job) (on_runners h) ≤ 1 }
+    ensures runs { (h : History) (number : ℕ) → IsLegal h → times (λ (w : Working). number == w.number && is_running w.run) (on_runners (accepted h)) ≡ (if runs (accepted h) number then 1 else 0) }
 {}
 
 /// Entries behind a history, and the one at a place.

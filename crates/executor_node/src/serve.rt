@@ -126,8 +126,8 @@ fn answer_one<R: Wait, C: Clock, L: Link>(
 ) -> Round
     requires { seat.old.shared ≡ shared.now }
     ensures gave { AnsweredGave IsLegalList (IsAnswered settings.now.token)
-        (scene seat.old (C.readings clock.old) (L.taken link.old) (L.faults link.old))
-        (scene seat.new (C.readings clock.new) (L.taken link.new) (L.faults link.new)) request.now result }
+        (scene seat.old (C.readings clock.old) (L.taken link.old) (L.met link.old) (L.faults link.old))
+        (scene seat.new (C.readings clock.new) (L.taken link.new) (L.met link.new) (L.faults link.new)) request.now result }
     ensures other { L.left link.new ≡ L.left link.old }
 {
     let answer = answer(rt, alloc, settings, shared, seat, clock, request);
@@ -160,8 +160,8 @@ fn serve_next<R: Wait, C: Clock, L: Link>(
     requires here { seat.old.shared ≡ shared.now }
     requires clean { buffer.old.faulted ≡ false }
     ensures gave { RoundGave IsLegalList (IsAnswered settings.now.token)
-        (scene seat.old (C.readings clock.old) (L.taken link.old) (L.faults link.old))
-        (scene seat.new (C.readings clock.new) (L.taken link.new) (L.faults link.new))
+        (scene seat.old (C.readings clock.old) (L.taken link.old) (L.met link.old) (L.faults link.old))
+        (scene seat.new (C.readings clock.new) (L.taken link.new) (L.met link.new) (L.faults link.new))
         (stream buffer.old.bytes (L.left link.old)) (stream buffer.new.bytes (L.left link.new)) result }
     ensures clean { result ≡ Round.Open → buffer.new.faulted ≡ false }
 {
@@ -189,8 +189,8 @@ fn serve_all<R: Wait, C: Clock, L: Link>(
     requires { seat.old.shared ≡ shared.now }
     ensures same { IsSameSeat seat.old seat.new }
     ensures serves { Serves IsLegalList (IsAnswered settings.now.token)
-        (scene seat.old (C.readings clock.old) (L.taken link.old) (L.faults link.old))
-        (scene seat.new (C.readings clock.new) (L.taken link.new) (L.faults link.new))
+        (scene seat.old (C.readings clock.old) (L.taken link.old) (L.met link.old) (L.faults link.old))
+        (scene seat.new (C.readings clock.new) (L.taken link.new) (L.met link.new) (L.faults link.new))
         (L.left link.old) result }
 {
     let mut buffer = HttpBuffer::new(alloc);
@@ -234,8 +234,8 @@ pub fn serve_executor<R: Wait, C: Clock, L: Link>(
     requires { seat.old.shared ≡ shared.now }
     ensures same { IsSameSeat seat.old seat.new }
     ensures serves { Serves IsLegalList (IsAnswered settings.now.token)
-        (scene seat.old (C.readings clock.old) (L.taken link.old) (L.faults link.old))
-        (scene seat.new (C.readings clock.new) (L.taken link.new) (L.faults link.new))
+        (scene seat.old (C.readings clock.old) (L.taken link.old) (L.met link.old) (L.faults link.old))
+        (scene seat.new (C.readings clock.new) (L.taken link.new) (L.met link.new) (L.faults link.new))
         (L.left link.old) (served_of result) }
 {
     let served = serve_all(rt, alloc, settings, shared, seat, clock, link);

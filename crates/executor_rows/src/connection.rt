@@ -12,7 +12,7 @@
 //!
 //! The row is played in pieces of each size up to 64 and of some above, and on a link that ends behind each
 //! byte of its requests; a row of one request also on a link that gives and takes single bytes, with each of
-//! its calls failing in turn.
+//! its calls failing in turn, and in pieces of these sizes on a link whose read behind its last byte fails.
 
 use crate::handlers::names;
 use crate::outcome::Outcome;
@@ -287,6 +287,38 @@ impl Connection {
         Ok(true)
     }
 
+    /// Whether the request of a row of one is answered, in pieces of each size, on a link whose read behind it
+    /// would fail: it is answered at its last byte, and not first when more came.
+    fn holds_at_last_byte<R: Wait>(
+        &self,
+        rt: &R,
+        alloc: Global,
+        requests: &[u8],
+    ) -> Result<bool, NoMemory> {
+        let [exchange] = self.exchanges.as_slice() else {
+            return Ok(true);
+        };
+        for less in 0..requests.len() {
+            let size = less + 1;
+            if !is_tried(size) {
+                continue;
+            }
+            let reads = requests.len().div_ceil(size);
+            let link = MemoryLink::new(alloc, Vec::from_slice(alloc, requests)?)
+                .in_pieces(size)
+                .with_room(usize::MAX)
+                .failing(vec![in alloc; (reads as u64).saturating_add(2)]?);
+            let served = self.served(rt, alloc, link)?;
+            let mut wanted = Outcome::new(alloc, served.end);
+            wanted.count(exchange.is_entry);
+            wanted.write(exchange.answer.as_slice())?;
+            if !served.is(&wanted) {
+                return Ok(false);
+            }
+        }
+        Ok(true)
+    }
+
     /// Whether it holds in all ways that it is played.
     fn holds<R: Wait>(&self, rt: &R, alloc: Global) -> Result<bool, NoMemory> {
         let requests = self.requests(alloc)?;
@@ -298,7 +330,8 @@ impl Connection {
         Ok(
             self.holds_in_pieces(rt, alloc, bytes.as_slice(), bytes.len())?
                 && self.holds_ended(rt, alloc, requests.as_slice())?
-                && self.holds_failing(rt, alloc, requests.as_slice())?,
+                && self.holds_failing(rt, alloc, requests.as_slice())?
+                && self.holds_at_last_byte(rt, alloc, requests.as_slice())?,
         )
     }
 }

@@ -1,8 +1,8 @@
 //! Addresses: `http://`, a host, `:`, a port, and a path or none.
-ghost use Rattle.std.specs.Prelude.{◌≡◌, ◌≢◌, ℕ, ◌+◌, ◌-◌, ◌≤◌, ◌<◌, ◌==◌, ◌⊎◌, ◌↔◌, [], ◌∷◌, ◌++◌, length, slice_index, codes, decimal, IsTrue, IfSome, IfNone, MatchOption};
+ghost use Rattle.std.specs.Prelude.{◌≡◌, ◌≢◌, ℕ, ◌+◌, ◌-◌, ◌≤◌, ◌<◌, ◌==◌, ◌⊎◌, ◌↔◌, [], ◌∷◌, ◌++◌, length, slice_index, codes, decimal, IsTrue, IfSome, IfNone, MatchBool, MatchOption};
 ghost use Rattle.std.specs.List.{list_all};
 ghost use Rattle.std.specs.Prelude.{List};
-ghost use Rattle.http_ends.specs.Addresses.{LacksByte, is_host_byte, is_path_byte, IsAddress, NoAddress, IsDivided, address_of};
+ghost use Rattle.http_ends.specs.Addresses.{LacksByte, is_host_byte, is_path_byte, Address, IsAddress, NoAddress, IsDivided, address_of};
 
 use itoa::Buffer;
 
@@ -90,4 +90,11 @@ pub(crate) fn read_address(text: &str) -> Option<Parts<'_>>
         return None;
     }
     Some(Parts { host, port, tail })
+}
+
+/// Whether the text is an address.
+pub fn is_address(text: &str) -> bool
+    ensures { MatchBool result ((address : Address) × IsAddress text.now address) (NoAddress text.now) }
+{
+    read_address(text).is_some()
 }

@@ -9,6 +9,7 @@ mod laws;
 mod tests;
 mod writing;
 
+pub use address::is_address;
 pub use asking::{AskFault, ask};
 pub use http_reading::{HttpBuffer, HttpFault, Request, Response, read_request};
 pub use laws::law_one_address;

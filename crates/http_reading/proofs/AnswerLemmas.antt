@@ -1,10 +1,9 @@
 -- A response of a head and the body behind it.
-use Rattle.std.proofs.Common.{◌≡◌, ℕ, Bool, true, false, ◌||◌, List, [], ◌++◌, length, drop, Option, refl, sym, subst, inl, inr}
+use Rattle.std.proofs.Common.{◌≡◌, ℕ, Bool, List, [], ◌++◌, drop, Option, sym, ap, subst, inl, inr}
 use Rattle.std.specs.Io.KnownBytes.{Consumes, Appends}
 use Rattle.std.proofs.lemmas.List.{drop-append-le}
-use Rattle.httparse.specs.Grammar.{print_response}
 use Rattle.httparse.proofs.GrammarLemmas.{ReadsResponse-append}
-use Rattle.http_reading.specs.Plans.{plan_of, to_end, fields_of}
+use Rattle.http_reading.specs.Plans.{plan_of, to_end, is_to_end, fields_of}
 use Rattle.http_reading.specs.Draws.{Draws, Fails}
 use Rattle.http_reading.specs.Heads.{TopAt, TopRead}
 use Rattle.http_reading.specs.Bodies.{ReadsBody, BodyFault}
@@ -12,21 +11,8 @@ use Rattle.http_reading.specs.BodyReads.{BodyRead, Behind}
 use Rattle.http_reading.specs.Responses.{ReadsTop, TopFault, HasAnswerFault, Heard, HearsAnswer, HearsFault}
 use Rattle.http_reading.specs.declared.top.Top.{Top}
 use Rattle.http_reading.specs.declared.body.Body.{Body}
-use Rattle.http_reading.specs.declared.plan.BodyPlan.{BodyPlan}
-use Rattle.http_reading.specs.declared.plan.BodyPlan.TheVariants.{Empty, Sized, Chunked, ToEnd, Bad, TooLarge as Huge}
 use Rattle.http_reading.specs.declared.fault.HttpFault.{HttpFault}
 use Rattle.http_reading.proofs.DrawLemmas.{draws_more, fails_grown}
-use Rattle.http_reading.proofs.TakeLemmas.{later_body}
-
--- a body that was read where the link had ended before, or ended then
-later_reads : (plan : BodyPlan) (bytes : List ℕ) (e f : Bool) (body rest : List ℕ) → ReadsBody plan bytes f body rest → ReadsBody plan bytes (e || f) body rest
-later_reads Empty bytes e f body rest h = h
-later_reads (Sized n) bytes e f body rest h = h
-later_reads Chunked bytes e f body rest h = h
-later_reads ToEnd bytes true f body rest h = (refl, h.1, h.2, h.3)
-later_reads ToEnd bytes false f body rest h = h
-later_reads Bad bytes e f body rest h = h
-later_reads Huge bytes e f body rest h = h
 
 top_grown : (held bytes holds : List ℕ) (top : Top) (at : TopAt held top) → holds ≡ held ++ bytes → ReadsTop holds at.is (drop top.len holds)
 top_grown held bytes holds top at grown =
@@ -53,7 +39,8 @@ module _ {A : Type 0} {left seen taken : A → Option (List ℕ)} {met : A → B
       → HearsAnswer (left a) (left c) (seen a) (seen c) (met a) (met c) (record { status = top.status; body = body.bytes })
   hears_answer a b c mid holds top body h r =
       let at = h.is in
-      let ended = h.ended || r.ended in
+      let plan = to_end (plan_of (fields_of at.is.fields)) in
+      let ended = is_to_end top.plan in
       record {
         bytes = holds;
         ended = ended;
@@ -63,10 +50,10 @@ module _ {A : Type 0} {left seen taken : A → Option (List ℕ)} {met : A → B
           head = at.is;
           behind = drop top.len holds;
           reads = top_grown mid r.draws.bytes holds top at r.draws.grown;
-          body = later_reads (to_end (plan_of (fields_of at.is.fields))) (drop top.len holds) h.ended r.ended body.bytes (drop body.end holds)
-              (subst (λ p. ReadsBody p (drop top.len holds) r.ended body.bytes (drop body.end holds)) at.plan r.is);
+          body = subst (λ p. ReadsBody p (drop top.len holds) ended body.bytes (drop body.end holds)) at.plan r.is;
           status = at.status;
         };
+        early = ap is_to_end at.plan;
       }
 
   -- a fault of what was read
@@ -89,7 +76,7 @@ module _ {A : Type 0} {left seen taken : A → Option (List ℕ)} {met : A → B
         head = at.is;
         behind = drop top.len holds;
         reads = top_grown mid bytes holds top at grown;
-        is = later_body plan (length (print_response at.is)) (drop top.len holds) h.ended f fault
+        is =
             (subst (λ n. BodyFault plan n (drop top.len holds) f fault) at.size
             (subst (λ p. BodyFault p top.len (drop top.len holds) f fault) at.plan is));
       }))

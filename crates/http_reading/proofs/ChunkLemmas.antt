@@ -1,5 +1,5 @@
 -- A chunk of a line, its content and CR LF.
-use Rattle.std.proofs.Common.{◌≡◌, ℕ, ◌+◌, ◌-◌, ◌<◌, ◌≤◌, ◌⊎◌, Bool, true, false, ◌||◌, eqb, List, [], ◌∷◌, ◌++◌, length, take, drop, replicate, refl, sym, ap, ◌∙◌, subst, arith, append_assoc, length-append, length-take, length-drop, take-append-drop, inl, inr, Option}
+use Rattle.std.proofs.Common.{◌≡◌, ℕ, ◌+◌, ◌-◌, ◌<◌, ◌≤◌, ◌⊎◌, Bool, false, eqb, List, [], ◌∷◌, ◌++◌, length, take, drop, replicate, refl, sym, ap, ◌∙◌, subst, arith, append_assoc, length-append, length-take, length-drop, take-append-drop, inl, inr, Option}
 use Rattle.std.proofs.lemmas.List.{drop-drop, drop-append-le, length-replicate}
 use Rattle.std.proofs.lemmas.Bool.Decides.{eqb_tells}
 use Rattle.httparse.specs.Grammar.{print_chunk_line}
@@ -68,20 +68,16 @@ may_close holds at len size (inl few) inside = inl (omega (arith, size_behind ho
 may_close holds at len size (inr (inl none)) inside = inr (inl (behind holds at len size ∙ none))
 may_close holds at len size (inr (inr one)) inside = inr (inr (behind holds at len size ∙ one))
 
-later : (e f : Bool) → f ≡ true → (e || f) ≡ true
-later true f is = refl
-later false f is = is
-
 -- the fault of a chunk whose line is whole
-close_fault : (at before : ℕ) (holds : List ℕ) (e f : Bool) (line : SizeLine) (fault : HttpFault) → LineAt (drop at holds) line
+close_fault : (at before : ℕ) (holds : List ℕ) (f : Bool) (line : SizeLine) (fault : HttpFault) → LineAt (drop at holds) line
     → before + line.size ≤ 1048576 → at ≤ length holds
-    → CloseFault (at + line.len + line.size) holds f fault → TailFault at before (drop at holds) (e || f) fault
-close_fault at before holds e f line (Ended taken) is few inside h =
+    → CloseFault (at + line.len + line.size) holds f fault → TailFault at before (drop at holds) f fault
+close_fault at before holds f line (Ended taken) is few inside h =
     let tail = drop at holds in
     let rest = drop line.len tail in
     let enough : at + line.len ≤ length holds = omega (arith, is.inside, length-drop at holds) in
     let u = unclosed rest line.size (may_close holds at line.len line.size h.2 enough) in (
-      later e f h.0,
+      h.0,
       omega (arith, h.1, length-drop at holds),
       inr (record {
         line = is.is;
@@ -94,9 +90,9 @@ close_fault at before holds e f line (Ended taken) is few inside h =
         are = u.4;
       }),
     )
-close_fault at before holds e f line BadHead is few inside h = h
-close_fault at before holds e f line TooLarge is few inside h = absurd h
-close_fault at before holds e f line (BadBody place) is few inside h =
+close_fault at before holds f line BadHead is few inside h = h
+close_fault at before holds f line TooLarge is few inside h = absurd h
+close_fault at before holds f line (BadBody place) is few inside h =
     let tail = drop at holds in
     let rest = drop line.len tail in
     let content = take line.size rest in
@@ -134,10 +130,10 @@ close_fault at before holds e f line (BadBody place) is few inside h =
         }),
       )
     ]
-close_fault at before holds e f line LinkFault is few inside h = tt
-close_fault at before holds e f line NoMemory is few inside h = tt
+close_fault at before holds f line LinkFault is few inside h = tt
+close_fault at before holds f line NoMemory is few inside h = tt
 
-empty_list : (xs : List ℕ) → length xs ≡ 0 → xs ≡ []
+pub empty_list : (xs : List ℕ) → length xs ≡ 0 → xs ≡ []
 empty_list [] e = refl
 empty_list (x ∷ xs) e = absurd (omega arith)
 
@@ -170,9 +166,9 @@ module _ {A : Type 0} {left seen taken : A → Option (List ℕ)} {met : A → B
       → Fails left seen taken met dial faults b c mid (CloseFault (at + line.len + line.size)) fault
       → Fails left seen taken met dial faults a c held (ChunkFault at before) fault
   failed_close a b c held mid at before line fault inside few read fails =
-      let in_mid = at_inside a b held mid read.ended at inside read.draws in
+      let in_mid = at_inside a b held mid false at inside read.draws in
       fails_grown (ChunkFault at before) read.draws fails (λ holds f bytes grown is.
-      close_fault at before holds read.ended f line fault (line_grown mid bytes holds at line in_mid grown read.is) few
+      close_fault at before holds f line fault (line_grown mid bytes holds at line in_mid grown read.is) few
       (omega (arith, in_mid, ap length grown, length-append mid bytes)) is)
 
   pub chunk_read : (a b c : A) (held mid holds body whole slice : List ℕ) (at : ℕ) (line : SizeLine)
@@ -183,12 +179,11 @@ module _ {A : Type 0} {left seen taken : A → Option (List ℕ)} {met : A → B
       → ChunkRead left seen taken met dial faults a c held holds at body whole
       (record { end = at + line.len + line.size + 2; last = eqb line.size 0 })
   chunk_read a b c held mid holds body whole slice at line inside few read closed same added =
-      let in_mid = at_inside a b held mid read.ended at inside read.draws in
+      let in_mid = at_inside a b held mid false at inside read.draws in
       let is = line_grown mid closed.draws.bytes holds at line in_mid closed.draws.grown read.is in
       let content = take ((at + line.len + line.size) - (at + line.len)) (drop (at + line.len) slice) in
       let part = part_is holds slice content (at + line.len) line.size (omega (arith, closed.is.inside)) (omega (arith, closed.is.inside)) same refl in
       record {
-        ended = read.ended || closed.ended;
         draws = draws_more read.draws closed.draws;
         content = content;
         added = added;

@@ -1,5 +1,5 @@
 -- Chunks, one after another, up to the last or to a fault.
-use Rattle.std.proofs.Common.{◌≡◌, ℕ, ◌<◌, ◌≤◌, Bool, true, false, ◌||◌, List, [], ◌∷◌, ◌++◌, length, drop, refl, sym, ap, ◌∙◌, subst, arith, append_assoc, append-nil, length-append, length-drop, Option}
+use Rattle.std.proofs.Common.{◌≡◌, ℕ, ◌<◌, ◌≤◌, Bool, true, false, List, [], ◌∷◌, ◌++◌, length, drop, refl, sym, ap, ◌∙◌, subst, arith, append_assoc, append-nil, length-append, length-drop, Option}
 use Rattle.std.proofs.lemmas.List.{drop-append-le}
 use Rattle.http_reading.specs.Draws.{Draws, Fails}
 use Rattle.http_reading.specs.Chunks.{Chunk, ReadsChunk, ReadsChunks, contents_of, Front, TailFault, ChunkedFault}
@@ -12,13 +12,11 @@ use Rattle.http_reading.specs.declared.fault.HttpFault.TheVariants.{Ended, BadHe
 use Rattle.http_reading.specs.declared.chunks.ReadTo.{ReadTo}
 use Rattle.http_reading.proofs.DrawLemmas.{draws_more, fails_grown}
 use Rattle.http_reading.proofs.GrowLemmas.{Front-append}
-use Rattle.http_reading.proofs.TakeLemmas.{later_body}
 
 -- whole chunks stand from `start` up to `at`, and the body is their content
 pub record SoFar {A : Type 0} (left seen taken : A → Option (List ℕ)) (met : A → Bool) (dial faults : A → ℕ)
     (before now : A) (held holds : List ℕ) (start at : ℕ) (body : List ℕ) : Type 0 where
-  pub ended : Bool
-  pub draws : Draws left seen taken met dial faults before now held holds ended
+  pub draws : Draws left seen taken met dial faults before now held holds false
   pub chunks : List Chunk
   pub front : Front (drop start holds) chunks (drop at holds)
   pub are : contents_of chunks ≡ body
@@ -55,7 +53,6 @@ module _ {A : Type 0} {left seen taken : A → Option (List ℕ)} {met : A → B
   pub so_far_none : (a : A) (held : List ℕ) (start : ℕ) → start ≤ length held
       → Draws left seen taken met dial faults a a held held false → SoFar left seen taken met dial faults a a held held start start []
   so_far_none a held start inside draws = record {
-    ended = false;
     draws = draws;
     chunks = [];
     front = record { reads = refl; few = omega arith };
@@ -75,7 +72,6 @@ module _ {A : Type 0} {left seen taken : A → Option (List ℕ)} {met : A → B
       let front = front_grown mid r.draws.bytes holds start at s.chunks s.from s.to r.draws.grown s.front in
       let all : contents_of (s.chunks ++ chunk ∷ []) ≡ whole = contents_push s.chunks chunk ∙ ap (λ (t : List ℕ). t ++ r.content) s.are ∙ sym r.added in (
         record {
-          ended = s.ended || r.ended;
           draws = draws_more s.draws r.draws;
           chunks = s.chunks ++ chunk ∷ [];
           front = record {
@@ -97,7 +93,6 @@ module _ {A : Type 0} {left seen taken : A → Option (List ℕ)} {met : A → B
   so_far_last a b c held mid holds body whole seq start at read s r last same =
       let one = subst (λ l. ReadsOne l (drop at holds) r.content (drop read.end holds)) last r.is in
       record {
-        ended = s.ended || r.ended;
         draws = draws_more s.draws r.draws;
         inside = r.inside;
         is = record {
@@ -118,12 +113,11 @@ module _ {A : Type 0} {left seen taken : A → Option (List ℕ)} {met : A → B
       → Fails left seen taken met dial faults a c held (Behind Chunked start) fault
   so_far_failed a b c held mid body start at fault s fails =
       fails_grown (Behind Chunked start) s.draws fails (λ holds f bytes grown is.
-      later_body Chunked start (drop start holds) s.ended f fault
-      (chunked start (drop start holds) f fault (record {
+      chunked start (drop start holds) f fault (record {
         chunks = s.chunks;
         tail = drop at holds;
         front = front_grown mid bytes holds start at s.chunks s.from s.to grown s.front;
         at = at;
         place = omega (arith, length-drop start holds, length-drop at holds, s.from, s.to, ap length grown, length-append mid bytes);
         is = subst (λ n. TailFault at n (drop at holds) f fault) (ap length (sym s.are)) is;
-      })))
+      }))

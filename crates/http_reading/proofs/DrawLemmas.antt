@@ -1,6 +1,6 @@
 -- Reading in several steps.
 use Rattle.std.proofs.lemmas.Bool.{ne_eqb}
-use Rattle.std.proofs.Common.{◌≡◌, ℕ, ◌≤◌, ◌≢◌, Bool, true, false, ◌||◌, ◌&&◌, ltb, List, [], ◌∷◌, ◌++◌, length, Option, Some, None, IfSome, refl, sym, ap, ◌∙◌, arith, append_assoc, append-nil, Ok, Err}
+use Rattle.std.proofs.Common.{◌≡◌, ℕ, ◌≤◌, ◌≢◌, Bool, true, false, ◌||◌, ◌&&◌, ltb, List, [], ◌∷◌, ◌++◌, length, Option, Some, None, IfSome, refl, sym, ap, ◌∙◌, subst, arith, append_assoc, append-nil, Ok, Err}
 use Rattle.std.specs.Io.KnownBytes.{Consumes, Appends, Keeps}
 use Rattle.std.proofs.KnownBytes.{Consumes-trans, Appends-trans, Consumes-nil, Appends-nil, Consumes-kept, Appends-kept}
 use Rattle.outside.specs.Links.{meets_end}
@@ -78,6 +78,13 @@ module _ {A : Type 0} {left seen taken : A → Option (List ℕ)} {met : A → B
     end = second.end ∙ ap (λ (t : Bool). t || f) first.end ∙ or_assoc (met a) e f;
     last = last_more (left a) (left b) (left c) first.bytes second.bytes e f first.gone second.gone first.last second.last;
   }
+
+  -- a step behind one that met no end
+  pub draws_on : {a b c : A} {held mid holds : List ℕ} {e f : Bool}
+      → Draws left seen taken met dial faults a b held mid e → e ≡ false → Draws left seen taken met dial faults b c mid holds f
+      → Draws left seen taken met dial faults a c held holds f
+  draws_on {a} {c = c} {held} {holds = holds} {f = f} first none second =
+      subst (λ (x : Bool). Draws left seen taken met dial faults a c held holds (x || f)) none (draws_more first second)
 
   -- a read that failed
   pub read_failed : (a b : A) (held : List ℕ) (m : Bool) → Keeps (left a) (left b) → Keeps (seen a) (seen b)

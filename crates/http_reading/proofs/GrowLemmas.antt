@@ -7,7 +7,7 @@ use Rattle.httparse.specs.Grammar.{ChunkLine, RequestHead, HasNoChunkLine, MayBe
 use Rattle.httparse.specs.Spans.{RequestOverflows, RequestExceeds}
 use Rattle.httparse.proofs.GrammarLemmas.{ReadsRequest-append}
 use Rattle.httparse.proofs.ChunkLemmas.{ReadsChunkLine-append}
-use Rattle.http_reading.specs.Plans.{most_line}
+use Rattle.http_reading.specs.declared.plan.TheConstants.{MOST_LINE}
 use Rattle.http_reading.specs.Chunks.{Chunk, Line, ReadsChunk, ReadsChunks, Front, ReadsChunked, LongLine, BadLine, OpenChunk, BadClose, LargeChunk, TailFault, ChunkedFault, contents_of}
 use Rattle.http_reading.specs.Bodies.{ReadsBody, BodyFault}
 use Rattle.http_reading.specs.Requests.{ReadsHead, Reads, HeadFault, HasFault}
@@ -78,7 +78,7 @@ BadLine-append bytes place more h = record {
 
 LongLine-append : (bytes more : List ℕ) → LongLine bytes → LongLine (bytes ++ more)
 LongLine-append bytes more h =
-    let same = sym (take-append-le most_line bytes more h.many) in
+    let same = sym (take-append-le MOST_LINE bytes more h.many) in
     record {
       many = omega (arith, h.many, length-append bytes more);
       none = subst HasNoChunkLine same h.none;
@@ -194,20 +194,20 @@ RequestOverflows-append room xs zs h more head rest reads =
 HeadFault-append : (bytes more : List ℕ) (fault : HttpFault) → HeadFault bytes false fault → HeadFault (bytes ++ more) true fault
 HeadFault-append bytes more (Ended taken) h = not_so h.0
 HeadFault-append bytes more BadHead h =
-    let front = take_front most_line bytes more in
-    subst NeverHasRequest (sym front.1) (NeverHasRequest-append (take most_line bytes) front.0 h)
+    let front = take_front MOST_LINE bytes more in
+    subst NeverHasRequest (sym front.1) (NeverHasRequest-append (take MOST_LINE bytes) front.0 h)
 HeadFault-append bytes more TooLarge (inl h) =
-    let same = sym (take-append-le most_line bytes more h.many) in
+    let same = sym (take-append-le MOST_LINE bytes more h.many) in
     inl (record {
       many = omega (arith, h.many, length-append bytes more);
       none = subst HasNoRequest same h.none;
       some = subst MayBecomeRequest same h.some;
     })
 HeadFault-append bytes more TooLarge (inr h) =
-    let front = take_front most_line bytes more in
+    let front = take_front MOST_LINE bytes more in
     inr (record {
-      some = subst (RequestExceeds 64) (sym front.1) (RequestExceeds-append 64 (take most_line bytes) front.0 h.some);
-      none = subst (RequestOverflows 64) (sym front.1) (RequestOverflows-append 64 (take most_line bytes) front.0 h.none);
+      some = subst (RequestExceeds 64) (sym front.1) (RequestExceeds-append 64 (take MOST_LINE bytes) front.0 h.some);
+      none = subst (RequestOverflows 64) (sym front.1) (RequestOverflows-append 64 (take MOST_LINE bytes) front.0 h.none);
     })
 HeadFault-append bytes more (BadBody place) h = h
 HeadFault-append bytes more LinkFault h = h

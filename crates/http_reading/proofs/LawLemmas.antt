@@ -7,11 +7,11 @@ use Rattle.httparse.specs.Spans.{RequestExceeds}
 use Rattle.httparse.proofs.GrammarLemmas.{request_unique, print_request-append}
 use Rattle.httparse.proofs.OpenLemmas.{line_blank, request_may_from_line}
 use Rattle.http_reading.specs.Draws.{IsOutside}
-use Rattle.http_reading.specs.Plans.{most_line, plan_of, token_of, closes, fields_of}
+use Rattle.http_reading.specs.Plans.{plan_of, token_of, closes, fields_of}
+use Rattle.http_reading.specs.declared.plan.TheConstants.{MOST_LINE}
 use Rattle.http_reading.specs.Bodies.{ReadsBody}
 use Rattle.http_reading.specs.Requests.{ReadsHead, HeadFault}
 use Rattle.http_reading.specs.Laws.{OneRequest, NoFault, NoneNoFault}
-use Rattle.http_reading.specs.declared.request.Request.{Request}
 use Rattle.http_reading.specs.declared.fault.HttpFault.{HttpFault}
 use Rattle.http_reading.specs.declared.fault.HttpFault.TheVariants.{Ended, BadHead, TooLarge, BadBody, LinkFault, NoMemory}
 use Rattle.http_reading.proofs.UniqueLemmas.{body_same, body_no_fault, take_past}
@@ -34,12 +34,12 @@ whole_again n bytes h behind x = subst (λ t. ReadsRequest t h behind) (sym (tak
 
 pub head_no_fault : (bytes : List ℕ) (head : RequestHead) (behind : List ℕ) (ended : Bool) (fault : HttpFault) → ReadsHead bytes head behind → HeadFault bytes ended fault → IsOutside fault
 head_no_fault bytes head behind ended (Ended taken) x h = absurd (h.3.none head behind x.reads)
-head_no_fault bytes head behind ended BadHead x h = absurd (h (drop most_line bytes) head behind (whole_again most_line bytes head behind x.reads))
+head_no_fault bytes head behind ended BadHead x h = absurd (h (drop MOST_LINE bytes) head behind (whole_again MOST_LINE bytes head behind x.reads))
 head_no_fault bytes head behind ended TooLarge x (inl h) =
-    absurd (h.none head (take (most_line - length (print_request head)) behind)
-    (x.reads.0, ap (take most_line) x.reads.1 ∙ take_past most_line (print_request head) behind x.short))
+    absurd (h.none head (take (MOST_LINE - length (print_request head)) behind)
+    (x.reads.0, ap (take MOST_LINE) x.reads.1 ∙ take_past MOST_LINE (print_request head) behind x.short))
 head_no_fault bytes head behind ended TooLarge x (inr h) =
-    absurd (omega (arith, x.few, h.none (drop most_line bytes) head behind (whole_again most_line bytes head behind x.reads)))
+    absurd (omega (arith, x.few, h.none (drop MOST_LINE bytes) head behind (whole_again MOST_LINE bytes head behind x.reads)))
 head_no_fault bytes head behind ended (BadBody place) x h = absurd h
 head_no_fault bytes head behind ended LinkFault x h = inl refl
 head_no_fault bytes head behind ended NoMemory x h = inr refl
@@ -74,10 +74,10 @@ take_none n = take_all n [] (omega arith)
 
 none_head : (ended : Bool) (fault : HttpFault) → HeadFault [] ended fault → IsOutside fault
 none_head ended (Ended taken) h = absurd (omega (arith, h.1, h.2))
-none_head ended BadHead h = absurd (may_begin (subst NeverHasRequest (take_none most_line) h))
+none_head ended BadHead h = absurd (may_begin (subst NeverHasRequest (take_none MOST_LINE) h))
 none_head ended TooLarge (inl h) = absurd (omega (arith, h.many))
 none_head ended TooLarge (inr h) =
-    let some = subst (RequestExceeds 64) (take_none most_line) h.some in
+    let some = subst (RequestExceeds 64) (take_none MOST_LINE) h.some in
     absurd (omega (arith, ap length some.2, request_long (some.0 ++ 10 ∷ []) some.3 [] some.4, length-append {A = ℕ}))
 none_head ended (BadBody place) h = absurd h
 none_head ended LinkFault h = inl refl

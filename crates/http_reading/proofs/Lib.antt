@@ -6,6 +6,7 @@ pub mod StreamLemmas
 pub mod TakeLemmas
 pub mod AnswerLemmas
 pub mod LineLemmas
+pub mod LineEndLemmas
 pub mod CloseLemmas
 pub mod ChunkLemmas
 pub mod ChunkedLemmas

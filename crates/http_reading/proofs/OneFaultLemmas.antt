@@ -1,5 +1,5 @@
 -- Bytes have one fault at most, but where their head leaves open which.
-use Rattle.std.proofs.Common.{◌≡◌, ◌≢◌, ℕ, ◌+◌, ◌<◌, ◌≤◌, Bool, List, [], ◌∷◌, ◌++◌, length, take, drop, refl, sym, ap, ◌∙◌, subst, arith, length-append, take-append-drop, append_assoc, inl, inr}
+use Rattle.std.proofs.Common.{◌≡◌, ℕ, ◌+◌, ◌<◌, ◌≤◌, Bool, List, [], ◌∷◌, ◌++◌, length, take, drop, refl, sym, ap, ◌∙◌, subst, arith, length-append, take-append-drop, append_assoc, inl, inr}
 use Rattle.std.specs.Prelude.{◌⊎◌}
 use Rattle.std.proofs.lemmas.Bool.{cases_lt}
 use Rattle.std.proofs.lemmas.List.{take_all, take-take}
@@ -7,10 +7,11 @@ use Rattle.httparse.specs.Grammar.{RequestHead, print_request, NeverHasRequest, 
 use Rattle.httparse.proofs.GrammarLemmas.{request_unique}
 use Rattle.job_values.specs.declared.limits.TheConstants.{LONGEST_BODY}
 use Rattle.http_reading.specs.Draws.{IsOutside}
-use Rattle.http_reading.specs.Plans.{most_line, plan_of, fields_of}
-use Rattle.http_reading.specs.Chunks.{Chunk, Line, ReadsChunk, ReadsChunks, contents_of, OpenLine, LongLine, BadLine, Unclosed, BadClose, LargeChunk, TailFault, ChunkedFault}
+use Rattle.http_reading.specs.Plans.{plan_of, fields_of}
+use Rattle.http_reading.specs.declared.plan.TheConstants.{MOST_LINE}
+use Rattle.http_reading.specs.Chunks.{Chunk, Line, ReadsChunks, contents_of, OpenLine, LongLine, BadLine, Unclosed, BadClose, LargeChunk, TailFault, ChunkedFault}
 use Rattle.http_reading.specs.Bodies.{BodyFault}
-use Rattle.http_reading.specs.Requests.{OpenHead, LongHead, CrowdedHead, HeadFault, HasFault}
+use Rattle.http_reading.specs.Requests.{OpenHead, LongHead, CrowdedHead, HeadFault}
 use Rattle.http_reading.specs.Laws.{LeavesOpen, OneFault}
 use Rattle.http_reading.specs.declared.plan.BodyPlan.{BodyPlan}
 use Rattle.http_reading.specs.declared.plan.BodyPlan.TheVariants.{Empty, Sized, Chunked, ToEnd, Bad, TooLarge as Huge}
@@ -25,7 +26,7 @@ use Rattle.http_reading.proofs.UniqueLemmas.{cut_same, first_byte, line_same, ch
 abbrev HeadWhy : List ℕ → HttpFault → Type 0
 HeadWhy bytes fault =
     ((fault ≡ Ended (length bytes)) × OpenHead bytes)
-    ⊎ (((fault ≡ BadHead) × NeverHasRequest (take most_line bytes)) ⊎ ((fault ≡ TooLarge) × (LongHead bytes ⊎ CrowdedHead bytes)))
+    ⊎ (((fault ≡ BadHead) × NeverHasRequest (take MOST_LINE bytes)) ⊎ ((fault ≡ TooLarge) × (LongHead bytes ⊎ CrowdedHead bytes)))
 
 head_why : (bytes : List ℕ) (ended : Bool) (fault : HttpFault) → HeadFault bytes ended fault → IsOutside fault ⊎ HeadWhy bytes fault
 head_why bytes ended (Ended taken) h = inr (inl (ap Ended h.1, h.3))
@@ -40,10 +41,10 @@ in_target : (bytes : List ℕ) → MayBecomeRequest bytes → NeverHasRequest by
 in_target bytes (inl m) never = absurd (never m.0 m.1 [] m.2)
 in_target bytes (inr target) never = target
 
-open_bad : (bytes : List ℕ) → OpenHead bytes → NeverHasRequest (take most_line bytes) → LeavesOpen bytes
+open_bad : (bytes : List ℕ) → OpenHead bytes → NeverHasRequest (take MOST_LINE bytes) → LeavesOpen bytes
 open_bad bytes h never =
-    let all : take most_line bytes ≡ bytes = take_all most_line bytes (omega (arith, h.few)) in
-    inl (in_target (take most_line bytes) (subst MayBecomeRequest (sym all) h.some) never, never)
+    let all : take MOST_LINE bytes ≡ bytes = take_all MOST_LINE bytes (omega (arith, h.few)) in
+    inl (in_target (take MOST_LINE bytes) (subst MayBecomeRequest (sym all) h.some) never, never)
 
 heads_one : (bytes : List ℕ) (e f : HttpFault) → HeadWhy bytes e → HeadWhy bytes f → (e ≡ f) ⊎ LeavesOpen bytes
 heads_one bytes e f (inl x) (inl y) = inl (x.0 ∙ sym y.0)
@@ -52,10 +53,10 @@ heads_one bytes e f (inl x) (inr (inr (q, inl long))) = absurd (omega (arith, x.
 heads_one bytes e f (inl x) (inr (inr (q, inr crowded))) = inr (inr crowded)
 heads_one bytes e f (inr (inl x)) (inl y) = inr (open_bad bytes y.1 x.1)
 heads_one bytes e f (inr (inl x)) (inr (inl y)) = inl (x.0 ∙ sym y.0)
-heads_one bytes e f (inr (inl x)) (inr (inr (q, inl long))) = inr (inl (in_target (take most_line bytes) long.some x.1, x.1))
+heads_one bytes e f (inr (inl x)) (inr (inr (q, inl long))) = inr (inl (in_target (take MOST_LINE bytes) long.some x.1, x.1))
 heads_one bytes e f (inr (inl x)) (inr (inr (q, inr crowded))) = inr (inr crowded)
 heads_one bytes e f (inr (inr (p, inl long))) (inl y) = absurd (omega (arith, y.1.few, long.many))
-heads_one bytes e f (inr (inr (p, inl long))) (inr (inl y)) = inr (inl (in_target (take most_line bytes) long.some y.1, y.1))
+heads_one bytes e f (inr (inr (p, inl long))) (inr (inl y)) = inr (inl (in_target (take MOST_LINE bytes) long.some y.1, y.1))
 heads_one bytes e f (inr (inr (p, inl long))) (inr (inr y)) = inl (p ∙ sym y.0)
 heads_one bytes e f (inr (inr (p, inr crowded))) y = inr (inr crowded)
 
@@ -109,9 +110,9 @@ no_line_one at bytes e f (inl x) (inr (inl y)) = absurd (omega (arith, x.1.few, 
 no_line_one at bytes e f (inl x) (inr (inr y)) = absurd (may_not (y.0 + 1) bytes x.1.some y.2.none)
 no_line_one at bytes e f (inr (inl x)) (inl y) = absurd (omega (arith, y.1.few, x.1.many))
 no_line_one at bytes e f (inr (inl x)) (inr (inl y)) = x.0 ∙ sym y.0
-no_line_one at bytes e f (inr (inl x)) (inr (inr y)) = absurd (front_not (y.0 + 1) most_line bytes (omega (arith, y.2.early)) x.1.some y.2.none)
+no_line_one at bytes e f (inr (inl x)) (inr (inr y)) = absurd (front_not (y.0 + 1) MOST_LINE bytes (omega (arith, y.2.early)) x.1.some y.2.none)
 no_line_one at bytes e f (inr (inr x)) (inl y) = absurd (may_not (x.0 + 1) bytes y.1.some x.2.none)
-no_line_one at bytes e f (inr (inr x)) (inr (inl y)) = absurd (front_not (x.0 + 1) most_line bytes (omega (arith, x.2.early)) y.1.some x.2.none)
+no_line_one at bytes e f (inr (inr x)) (inr (inl y)) = absurd (front_not (x.0 + 1) MOST_LINE bytes (omega (arith, x.2.early)) y.1.some x.2.none)
 no_line_one at bytes e f (inr (inr x)) (inr (inr y)) = x.1 ∙ ap (λ k. BadBody (at + k)) (bad_lines bytes x.0 y.0 x.2 y.2) ∙ sym y.1
 
 -- ---- behind a line
@@ -183,7 +184,7 @@ line_of at before bytes f (inr (inr y)) = (y.2.line, y.2.rest, y.2.chunk.reads)
 
 line_no : (at : ℕ) (bytes : List ℕ) (e : HttpFault) (l : ChunkLine) (rest : List ℕ) → NoLine at bytes e → Line bytes l rest → ⊥
 line_no at bytes e l rest (inl x) y = x.1.none l rest y.reads
-line_no at bytes e l rest (inr (inl x)) y = no_front_line most_line bytes l rest y.short y.reads x.1.none
+line_no at bytes e l rest (inr (inl x)) y = no_front_line MOST_LINE bytes l rest y.short y.reads x.1.none
 line_no at bytes e l rest (inr (inr x)) y =
     x.2.none (drop (x.0 + 1) bytes) l rest (subst (λ t. ReadsChunkLine t l rest) (sym (take-append-drop (x.0 + 1) bytes)) y.reads)
 

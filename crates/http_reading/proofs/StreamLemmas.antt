@@ -74,8 +74,8 @@ module _ {A : Type 0} {left seen taken : A → Option (List ℕ)} {met : A → B
       → Took left seen taken met dial faults a b held holds request
       → MatchOption request (TakesNone (stream held (left a)) (stream holds (left b))) (TakesRequest (stream held (left a)) (stream holds (left b)))
   took_request a b held holds None t =
-      subst (λ h. TakesNone (stream held (left a)) (stream h (left b))) (sym t.is.2)
-      (none_in held t.draws.bytes t.bytes (left a) (left b) t.draws.grown t.draws.gone (t.draws.last t.is.0) t.is.1)
+      subst (λ h. TakesNone (stream held (left a)) (stream h (left b))) (sym t.is.1)
+      (none_in held t.draws.bytes t.bytes (left a) (left b) t.draws.grown t.draws.gone (t.draws.last refl) t.is.0)
   took_request a b held holds (Some r) t =
       request_in held t.draws.bytes t.bytes holds (left a) (left b) r t.draws.grown t.draws.gone t.is
 
@@ -88,7 +88,7 @@ module _ {A : Type 0} {left seen taken : A → Option (List ℕ)} {met : A → B
   -- no request and no byte come only of the end
   pub took_none : (a b : A) (held holds : List ℕ) (request : Option Request)
       → Took left seen taken met dial faults a b held holds request → IsNone request → met b ≡ true
-  took_none a b held holds None t none = met_end (met a) (met b) t.ended t.draws.end t.is.0
+  took_none a b held holds None t none = met_end (met a) (met b) true t.draws.end refl
   took_none a b held holds (Some r) t none = let never : ⊥ = cc in absurd never
 
   pub failed_end : (a b : A) (held : List ℕ) (fault : HttpFault) → Fails left seen taken met dial faults a b held HasFault fault → IsEnd fault → met b ≡ true

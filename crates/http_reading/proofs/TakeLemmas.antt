@@ -1,10 +1,9 @@
 -- A request of a head and the body behind it.
-use Rattle.std.proofs.Common.{◌≡◌, ◌≢◌, ℕ, Bool, true, false, ◌||◌, List, [], ◌∷◌, ◌++◌, length, drop, Option, Some, refl, sym, subst, append-nil, inr, cond}
+use Rattle.std.proofs.Common.{◌≡◌, ◌≢◌, ℕ, Bool, true, false, ◌||◌, List, [], ◌∷◌, ◌++◌, drop, Option, Some, refl, sym, ap, ◌∙◌, subst, append-nil, inr, cond}
 use Rattle.std.specs.Prelude.{codes}
 use Rattle.std.proofs.lemmas.List.{drop-append-le}
-use Rattle.httparse.specs.Grammar.{print_request}
-use Rattle.http_reading.specs.Plans.{plan_of, plan_by, fields_of, values_of}
-use Rattle.http_reading.specs.Draws.{Fails}
+use Rattle.http_reading.specs.Plans.{plan_of, plan_by, fields_of, values_of, is_to_end}
+use Rattle.http_reading.specs.Draws.{Draws, Fails}
 use Rattle.http_reading.specs.Heads.{HeadAt, HeadRead}
 use Rattle.http_reading.specs.Bodies.{ReadsBody, BodyFault}
 use Rattle.http_reading.specs.BodyReads.{BodyRead, Behind}
@@ -38,6 +37,14 @@ plan_by_not (value ∷ other ∷ others) codings e = let never : ⊥ = cc in nev
 
 pub plan_not : (fields : List (List ℕ × List ℕ)) → plan_of fields ≢ ToEnd
 plan_not fields = plan_by_not (values_of (codes "content-length") fields) (values_of (codes "transfer-encoding") fields)
+
+pub not_to_end : (plan : BodyPlan) → plan ≢ ToEnd → is_to_end plan ≡ false
+not_to_end Empty other = refl
+not_to_end (Sized n) other = refl
+not_to_end Chunked other = refl
+not_to_end ToEnd other = absurd (other refl)
+not_to_end Bad other = refl
+not_to_end Huge other = refl
 
 -- so it does not matter whether more can come
 settled : (plan : BodyPlan) (bytes : List ℕ) (ended : Bool) (body rest : List ℕ) → plan ≢ ToEnd → ReadsBody plan bytes ended body rest → ReadsBody plan bytes false body rest
@@ -77,15 +84,15 @@ module _ {A : Type 0} {left seen taken : A → Option (List ℕ)} {met : A → B
       let at = h.is in
       record {
         bytes = holds;
-        ended = h.ended || r.ended;
-        draws = draws_more h.draws r.draws;
+        draws = subst (λ e. Draws left seen taken met dial faults a c held holds e)
+            (ap is_to_end at.plan ∙ not_to_end (plan_of (fields_of at.is.fields)) (plan_not (fields_of at.is.fields))) (draws_more h.draws r.draws);
         is = record {
           head = at.is;
           behind = drop head.len holds;
           reads = head_grown mid r.draws.bytes holds head at r.draws.grown;
           body = subst (ReadsBody (plan_of (fields_of at.is.fields)) (drop head.len holds) false body.bytes) (sym e)
-              (settled (plan_of (fields_of at.is.fields)) (drop head.len holds) r.ended body.bytes (drop body.end holds) (plan_not (fields_of at.is.fields))
-              (subst (λ p. ReadsBody p (drop head.len holds) r.ended body.bytes (drop body.end holds)) at.plan r.is));
+              (settled (plan_of (fields_of at.is.fields)) (drop head.len holds) (is_to_end head.plan) body.bytes (drop body.end holds) (plan_not (fields_of at.is.fields))
+              (subst (λ p. ReadsBody p (drop head.len holds) (is_to_end head.plan) body.bytes (drop body.end holds)) at.plan r.is));
           method = at.method;
           path = at.path;
           token = at.token;
@@ -103,7 +110,7 @@ module _ {A : Type 0} {left seen taken : A → Option (List ℕ)} {met : A → B
         head = at.is;
         behind = drop head.len holds;
         reads = head_grown mid bytes holds head at grown;
-        is = later_body (plan_of (fields_of at.is.fields)) (length (print_request at.is)) (drop head.len holds) h.ended f fault
+        is =
             (subst (λ n. BodyFault (plan_of (fields_of at.is.fields)) n (drop head.len holds) f fault) at.size
             (subst (λ p. BodyFault p head.len (drop head.len holds) f fault) at.plan is));
       }))

@@ -4,7 +4,7 @@ use Rattle.std.proofs.Math.Seq.{take-append-add}
 use Rattle.httparse.specs.Grammar.{ChunkLine, print_chunk_line, chunk_size, ReadsChunkLine, HasNoChunkLine}
 use Rattle.httparse.proofs.ChunkLemmas.{chunk_line_unique}
 use Rattle.http_reading.specs.Draws.{IsOutside}
-use Rattle.http_reading.specs.Plans.{most_line}
+use Rattle.http_reading.specs.declared.plan.TheConstants.{MOST_LINE}
 use Rattle.http_reading.specs.Chunks.{Chunk, Line, ReadsChunk, ReadsChunks, contents_of, ReadsChunked, TailFault, ChunkedFault}
 use Rattle.http_reading.specs.Bodies.{ReadsBody, BodyFault}
 use Rattle.http_reading.specs.declared.plan.BodyPlan.{BodyPlan}
@@ -106,7 +106,7 @@ tail_no_fault at before bytes l content more ended (Ended taken) x size few (end
       length-append content (13 ∷ 10 ∷ more),
     ))
 tail_no_fault at before bytes l content more ended BadHead x size few h = absurd h
-tail_no_fault at before bytes l content more ended TooLarge x size few (inl h) = absurd (no_front_line most_line bytes l (content ++ 13 ∷ 10 ∷ more) x.short x.reads h.none)
+tail_no_fault at before bytes l content more ended TooLarge x size few (inl h) = absurd (no_front_line MOST_LINE bytes l (content ++ 13 ∷ 10 ∷ more) x.short x.reads h.none)
 tail_no_fault at before bytes l content more ended TooLarge x size few (inr h) =
     let lines = line_same bytes l h.line (content ++ 13 ∷ 10 ∷ more) h.rest x h.reads in
     absurd (omega (arith, size, few, h.large, ap chunk_size lines.0))

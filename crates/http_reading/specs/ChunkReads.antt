@@ -35,8 +35,7 @@ SizeRefused at bytes NoMemory = ⊥
 -- the bytes from `at` on begin with such a line
 pub record SizeRead {A : Type 0} (left seen taken : A → Option (List ℕ)) (met : A → Bool) (dial faults : A → ℕ)
     (before now : A) (held holds : List ℕ) (at : ℕ) (line : SizeLine) : Type 0 where
-  pub ended : Bool
-  pub draws : Draws left seen taken met dial faults before now held holds ended
+  pub draws : Draws left seen taken met dial faults before now held holds false
   pub is : LineAt (drop at holds) line
 
 -- the fault of the bytes from `at` on, whatever stands before them
@@ -84,8 +83,7 @@ CloseFault end holds ended NoMemory = Unit {0}
 -- a call read so far: CR LF stands at this place
 pub record Closed {A : Type 0} (left seen taken : A → Option (List ℕ)) (met : A → Bool) (dial faults : A → ℕ)
     (before now : A) (held holds : List ℕ) (end : ℕ) : Type 0 where
-  pub ended : Bool
-  pub draws : Draws left seen taken met dial faults before now held holds ended
+  pub draws : Draws left seen taken met dial faults before now held holds false
   pub is : ClosedAt holds end
 
 -- the bytes begin with this chunk, or with the line and the CR LF that end all chunks, and `rest` follows
@@ -97,8 +95,7 @@ ReadsOne false bytes content rest = (line : ChunkLine) × ReadsChunk bytes (reco
 -- a call read so far: a chunk begins at `at`, and its content stands behind the body
 pub record ChunkRead {A : Type 0} (left seen taken : A → Option (List ℕ)) (met : A → Bool) (dial faults : A → ℕ)
     (before now : A) (held holds : List ℕ) (at : ℕ) (body whole : List ℕ) (read : ReadTo) : Type 0 where
-  pub ended : Bool
-  pub draws : Draws left seen taken met dial faults before now held holds ended
+  pub draws : Draws left seen taken met dial faults before now held holds false
   pub content : List ℕ
   pub added : whole ≡ body ++ content
   pub few : length whole ≤ LONGEST_BODY

@@ -3,7 +3,7 @@
 use Rattle.std.specs.Prelude.{ℕ, ◌≡◌, ◌≢◌, ◌+◌, ◌<◌, ◌≤◌, ◌⊎◌, Bool, true, List, [], ◌∷◌, ◌++◌, length, take}
 use Rattle.httparse.specs.Grammar.{ChunkLine, print_chunk_line, chunk_size, ReadsChunkLine, HasNoChunkLine, NeverHasChunkLine, MayBecomeChunkLine}
 use Rattle.job_values.specs.declared.limits.TheConstants.{LONGEST_BODY}
-use Rattle.http_reading.specs.Plans.{most_line}
+use Rattle.http_reading.specs.declared.plan.TheConstants.{MOST_LINE}
 use Rattle.http_reading.specs.declared.fault.HttpFault.{HttpFault}
 use Rattle.http_reading.specs.declared.fault.HttpFault.TheVariants.{Ended, BadHead, TooLarge, BadBody, LinkFault, NoMemory}
 
@@ -15,7 +15,7 @@ pub record Chunk : Type 0 where
 -- the bytes begin with this line of at most 16,384 bytes, and `rest` follows it
 pub record Line (bytes : List ℕ) (line : ChunkLine) (rest : List ℕ) : Type 0 where
   pub reads : ReadsChunkLine bytes line rest
-  pub short : length (print_chunk_line line) ≤ most_line
+  pub short : length (print_chunk_line line) ≤ MOST_LINE
 
 -- the bytes begin with this chunk, and `rest` follows its CR LF
 pub record ReadsChunk (bytes : List ℕ) (chunk : Chunk) (rest : List ℕ) : Type 0 where
@@ -50,20 +50,20 @@ pub record ReadsChunked (bytes body rest : List ℕ) : Type 0 where
 
 -- a line before a chunk may come of the bytes, and has not yet
 pub record OpenLine (bytes : List ℕ) : Type 0 where
-  pub few : length bytes < most_line
+  pub few : length bytes < MOST_LINE
   pub none : HasNoChunkLine bytes
   pub some : MayBecomeChunkLine bytes
 
 -- the 16,384 bytes that such a line may have are there, and hold none
 pub record LongLine (bytes : List ℕ) : Type 0 where
-  pub many : most_line ≤ length bytes
-  pub none : HasNoChunkLine (take most_line bytes)
-  pub some : MayBecomeChunkLine (take most_line bytes)
+  pub many : MOST_LINE ≤ length bytes
+  pub none : HasNoChunkLine (take MOST_LINE bytes)
+  pub some : MayBecomeChunkLine (take MOST_LINE bytes)
 
 -- the byte at this place is the first with which no such line begins
 pub record BadLine (bytes : List ℕ) (place : ℕ) : Type 0 where
   pub inside : place < length bytes
-  pub early : place < most_line
+  pub early : place < MOST_LINE
   pub some : MayBecomeChunkLine (take place bytes)
   pub none : NeverHasChunkLine (take (place + 1) bytes)
 

@@ -1,5 +1,6 @@
 -- What a call that reads does to a link and to the bytes that are held.
-use Rattle.std.specs.Prelude.{ℕ, ◌≡◌, ◌<◌, ◌≤◌, ◌⊎◌, ◌||◌, Bool, true, false, List, ◌++◌, length, Option, IfSome}
+use Rattle.std.specs.Prelude.{ℕ, ◌≡◌, ◌<◌, ◌≤◌, ◌==◌, ◌⊎◌, ◌||◌, Bool, true, false, List, ◌++◌, length, Option, IfSome}
+use Rattle.std.specs.List.{list_any}
 use Rattle.std.specs.Io.KnownBytes.{Consumes, Appends}
 use Rattle.outside.specs.Causes.{Rose}
 use Rattle.http_reading.specs.declared.fault.HttpFault.{HttpFault}
@@ -33,6 +34,10 @@ pub record Came {A : Type 0} (left seen taken : A → Option (List ℕ)) (met : 
     (before now : A) (held holds : List ℕ) (ended : Bool) : Type 0 where
   pub draws : Draws left seen taken met dial faults before now held holds ended
   pub some : ended ≡ false → length held < length holds
+
+-- no line ended in the bytes that came behind the held ones: none of them is an LF (10)
+abbrev pub SameLine : List ℕ → List ℕ → Type 0
+SameLine held holds = (bytes : List ℕ) × (holds ≡ held ++ bytes) × (list_any (λ b. b == 10) bytes ≡ false)
 
 -- the fault is not of the bytes
 abbrev pub IsOutside : HttpFault → Type 0

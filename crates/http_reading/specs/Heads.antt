@@ -1,5 +1,5 @@
 -- Heads that were parsed, as the parser's spans tell them.
-use Rattle.std.specs.Prelude.{ℕ, ◌≡◌, ◌≢◌, ◌≤◌, Bool, true, List, [], length, drop, map, Option, MatchOption}
+use Rattle.std.specs.Prelude.{ℕ, ◌≡◌, ◌≢◌, ◌≤◌, Bool, false, List, [], length, drop, map, Option, is_none, MatchOption}
 use Rattle.httparse.specs.declared.spans.HeaderSpan.{HeaderSpan}
 use Rattle.httparse.specs.declared.spans.RequestSpans.{RequestSpans}
 use Rattle.httparse.specs.Grammar.{RequestHead, print_request, ResponseHead, print_response, status_code}
@@ -51,16 +51,15 @@ pub record TopAt (bytes : List ℕ) (top : Top) : Type 0 where
 abbrev pub TopRefused : List ℕ → HttpFault → Type 0
 TopRefused bytes fault = (fault ≢ LinkFault) × ((ended : Bool) → TopFault bytes ended fault)
 
--- a call read so far: the bytes begin with this head, or there are none and the link has ended
+-- a call read so far: the bytes begin with this head, or there are none and the link has ended; it has
+-- only then
 pub record HeadRead {A : Type 0} (left seen taken : A → Option (List ℕ)) (met : A → Bool) (dial faults : A → ℕ)
     (before now : A) (held holds : List ℕ) (head : Option Head) : Type 0 where
-  pub ended : Bool
-  pub draws : Draws left seen taken met dial faults before now held holds ended
-  pub is : MatchOption head ((ended ≡ true) × (holds ≡ [])) (HeadAt holds)
+  pub draws : Draws left seen taken met dial faults before now held holds (is_none head)
+  pub is : MatchOption head (holds ≡ []) (HeadAt holds)
 
--- a call read so far: the bytes begin with this head
+-- a call read so far: the bytes begin with this head, and the end was not met
 pub record TopRead {A : Type 0} (left seen taken : A → Option (List ℕ)) (met : A → Bool) (dial faults : A → ℕ)
     (before now : A) (held holds : List ℕ) (top : Top) : Type 0 where
-  pub ended : Bool
-  pub draws : Draws left seen taken met dial faults before now held holds ended
+  pub draws : Draws left seen taken met dial faults before now held holds false
   pub is : TopAt holds top

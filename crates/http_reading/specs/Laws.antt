@@ -1,7 +1,7 @@
 -- What holds of every list of bytes, every request and every fault.
 use Rattle.std.specs.Prelude.{ℕ, ◌≡◌, ◌⊎◌, Bool, List, [], take}
 use Rattle.httparse.specs.Grammar.{EndsInTarget, NeverHasRequest}
-use Rattle.http_reading.specs.Plans.{most_line}
+use Rattle.http_reading.specs.declared.plan.TheConstants.{MOST_LINE}
 use Rattle.http_reading.specs.Requests.{Reads, CrowdedHead, HasFault}
 use Rattle.http_reading.specs.declared.request.Request.{Request}
 use Rattle.http_reading.specs.declared.fault.HttpFault.{HttpFault}
@@ -25,7 +25,7 @@ NoneNoFault = (ended : Bool) (fault : HttpFault) → HasFault [] ended fault →
 
 -- the parser leaves open which fault a head has: one that ends inside a target which nothing can complete, and one with too many fields
 abbrev pub LeavesOpen : List ℕ → Type 0
-LeavesOpen bytes = (EndsInTarget (take most_line bytes) × NeverHasRequest (take most_line bytes)) ⊎ CrowdedHead bytes
+LeavesOpen bytes = (EndsInTarget (take MOST_LINE bytes) × NeverHasRequest (take MOST_LINE bytes)) ⊎ CrowdedHead bytes
 
 -- bytes have one fault at most, but where that is left open
 abbrev pub OneFault : Type 0

@@ -1,5 +1,5 @@
 -- The fields of a head: their names and values, and how a body is read by them.
-use Rattle.std.specs.Prelude.{ℕ, Bool, ◌&&◌, ◌||◌, ◌==◌, nat_lt, nat_le, if◌then◌else◌, List, [], ◌∷◌, length, map, codes, Option, Some, None}
+use Rattle.std.specs.Prelude.{ℕ, Bool, true, false, ◌&&◌, ◌||◌, ◌==◌, nat_lt, nat_le, if◌then◌else◌, List, [], ◌∷◌, length, map, codes, Option, Some, None}
 use Rattle.std.specs.List.{list_any, list_all}
 use Rattle.std.specs.Char.{is_ascii_digit}
 use Rattle.std.specs.Str.{str_eq_ignore_ascii_case}
@@ -9,14 +9,6 @@ use Rattle.httparse.specs.Spans.{name_and_value}
 use Rattle.job_values.specs.declared.limits.TheConstants.{LONGEST_BODY}
 use Rattle.http_reading.specs.declared.plan.BodyPlan.{BodyPlan}
 use Rattle.http_reading.specs.declared.plan.BodyPlan.TheVariants.{Empty, Sized, Chunked, ToEnd, Bad, TooLarge}
-
--- the most bytes of a head, and of the line before a chunk
-abbrev pub most_line : ℕ
-most_line = 16384
-
--- the most fields of a head
-abbrev pub most_fields : ℕ
-most_fields = 64
 
 -- the names of the fields with their values, which have no white space around them
 abbrev pub fields_of : List Field → List (List ℕ × List ℕ)
@@ -67,6 +59,15 @@ to_end Chunked = Chunked
 to_end ToEnd = ToEnd
 to_end Bad = Bad
 to_end TooLarge = TooLarge
+
+-- the body goes to the end of the link
+abbrev pub is_to_end : BodyPlan → Bool
+is_to_end Empty = false
+is_to_end (Sized n) = false
+is_to_end Chunked = false
+is_to_end ToEnd = true
+is_to_end Bad = false
+is_to_end TooLarge = false
 
 -- the token that a head gives: the first, if there are several
 abbrev pub token_of : List (List ℕ × List ℕ) → Option (List ℕ)

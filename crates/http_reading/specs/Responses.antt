@@ -3,7 +3,8 @@ use Rattle.std.specs.Prelude.{ℕ, ◌≡◌, ◌≤◌, ◌<◌, ◌⊎◌, ◌
 use Rattle.std.specs.Io.KnownBytes.{Appends, Consumes}
 use Rattle.httparse.specs.Grammar.{ResponseHead, print_response, ReadsResponse, HasNoResponse, NeverHasResponse, MayBecomeResponse, status_code}
 use Rattle.httparse.specs.Spans.{ResponseOverflows, ResponseExceeds}
-use Rattle.http_reading.specs.Plans.{most_line, most_fields, fields_of, plan_of, to_end}
+use Rattle.http_reading.specs.Plans.{fields_of, plan_of, to_end, is_to_end}
+use Rattle.http_reading.specs.declared.plan.TheConstants.{MOST_LINE, MOST_FIELDS}
 use Rattle.http_reading.specs.Bodies.{ReadsBody, BodyFault}
 use Rattle.http_reading.specs.declared.response.Response.{Response}
 use Rattle.http_reading.specs.declared.fault.HttpFault.{HttpFault}
@@ -12,8 +13,8 @@ use Rattle.http_reading.specs.declared.fault.HttpFault.TheVariants.{Ended, BadHe
 -- the bytes begin with this head, which is within the limits, and `behind` follows it
 pub record ReadsTop (bytes : List ℕ) (head : ResponseHead) (behind : List ℕ) : Type 0 where
   pub reads : ReadsResponse bytes head behind
-  pub short : length (print_response head) ≤ most_line
-  pub few : length head.fields ≤ most_fields
+  pub short : length (print_response head) ≤ MOST_LINE
+  pub few : length head.fields ≤ MOST_FIELDS
 
 -- the bytes begin with this response, and `rest` follows it; `ended` tells whether they are all that the link had
 pub record ReadsAnswer (bytes : List ℕ) (ended : Bool) (response : Response) (rest : List ℕ) : Type 0 where
@@ -25,25 +26,25 @@ pub record ReadsAnswer (bytes : List ℕ) (ended : Bool) (response : Response) (
 
 -- a head may come of the bytes, and has not yet
 pub record OpenTop (bytes : List ℕ) : Type 0 where
-  pub few : length bytes < most_line
+  pub few : length bytes < MOST_LINE
   pub none : HasNoResponse bytes
   pub some : MayBecomeResponse bytes
 
 -- the 16,384 bytes that a head may have are there, and hold none
 pub record LongTop (bytes : List ℕ) : Type 0 where
-  pub many : most_line ≤ length bytes
-  pub none : HasNoResponse (take most_line bytes)
-  pub some : MayBecomeResponse (take most_line bytes)
+  pub many : MOST_LINE ≤ length bytes
+  pub none : HasNoResponse (take MOST_LINE bytes)
+  pub some : MayBecomeResponse (take MOST_LINE bytes)
 
 -- a head with too many fields begins, and whatever follows, no other does
 pub record CrowdedTop (bytes : List ℕ) : Type 0 where
-  pub some : ResponseExceeds most_fields (take most_line bytes)
-  pub none : ResponseOverflows most_fields (take most_line bytes)
+  pub some : ResponseExceeds MOST_FIELDS (take MOST_LINE bytes)
+  pub none : ResponseOverflows MOST_FIELDS (take MOST_LINE bytes)
 
 -- the fault of bytes that begin with no head
 abbrev pub TopFault : List ℕ → Bool → HttpFault → Type 0
 TopFault bytes ended (Ended taken) = (ended ≡ true) × (taken ≡ length bytes) × OpenTop bytes
-TopFault bytes ended BadHead = NeverHasResponse (take most_line bytes)
+TopFault bytes ended BadHead = NeverHasResponse (take MOST_LINE bytes)
 TopFault bytes ended TooLarge = LongTop bytes ⊎ CrowdedTop bytes
 TopFault bytes ended (BadBody place) = ⊥
 TopFault bytes ended LinkFault = Unit {0}
@@ -66,13 +67,14 @@ pub record Heard (left left' seen seen' : Option (List ℕ)) (met met' : Bool) (
   pub told : Appends seen seen' bytes
   pub end : met' ≡ (met || ended)
 
--- the bytes that a call read begin with this response
+-- the bytes that a call read begin with this response, and the end was met where its body goes to it, and not else
 pub record HearsAnswer (left left' seen seen' : Option (List ℕ)) (met met' : Bool) (response : Response) : Type 0 where
   pub bytes : List ℕ
   pub ended : Bool
   pub heard : Heard left left' seen seen' met met' bytes ended
   pub rest : List ℕ
   pub is : ReadsAnswer bytes ended response rest
+  pub early : ended ≡ is_to_end (to_end (plan_of (fields_of is.head.fields)))
 
 -- the bytes that a call read have this fault
 pub record HearsFault (left left' seen seen' : Option (List ℕ)) (met met' : Bool) (fault : HttpFault) : Type 0 where

@@ -7,6 +7,7 @@ use super::chunks::chunked_body;
 use super::fault::HttpFault;
 use super::fill::fill;
 use super::head::copied;
+use super::piece::Piece;
 use super::plan::BodyPlan;
 use job_values::Seq;
 use job_values::limits::LONGEST_BODY;
@@ -24,6 +25,7 @@ pub(crate) struct Body {
 fn sized_body<L: Link>(
     alloc: Global,
     link: &mut L,
+    piece: &mut Piece,
     bytes: &mut Vec<u8>,
     start: usize,
     count: usize,
@@ -33,7 +35,7 @@ fn sized_body<L: Link>(
     ensures err { IfErr result (Fails L.left L.seen L.taken L.met L.dial L.faults link.old link.new bytes.old.items (Behind (BodyPlan.Sized count) start)) }
 {
     while bytes.len() - start < count {
-        if fill(link, bytes)? {
+        if fill(link, piece, bytes)? {
             return Err(HttpFault::Ended { taken: bytes.len() });
         }
     }
@@ -46,6 +48,7 @@ fn sized_body<L: Link>(
 fn body_to_end<L: Link>(
     alloc: Global,
     link: &mut L,
+    piece: &mut Piece,
     bytes: &mut Vec<u8>,
     start: usize,
 ) -> Result<Body, HttpFault>
@@ -58,7 +61,7 @@ fn body_to_end<L: Link>(
         if bytes.len() - start > LONGEST_BODY {
             return Err(HttpFault::TooLarge);
         }
-        ended = fill(link, bytes)?;
+        ended = fill(link, piece, bytes)?;
     }
     let body = copied(alloc, &bytes[start..])?;
     Ok(Body {
@@ -71,6 +74,7 @@ fn body_to_end<L: Link>(
 pub(crate) fn read_body<L: Link>(
     alloc: Global,
     link: &mut L,
+    piece: &mut Piece,
     bytes: &mut Vec<u8>,
     start: usize,
     plan: BodyPlan,
@@ -84,9 +88,9 @@ pub(crate) fn read_body<L: Link>(
             bytes: Seq::new(alloc),
             end: start,
         }),
-        BodyPlan::Sized(count) => sized_body(alloc, link, bytes, start, count),
-        BodyPlan::Chunked => chunked_body(alloc, link, bytes, start),
-        BodyPlan::ToEnd => body_to_end(alloc, link, bytes, start),
+        BodyPlan::Sized(count) => sized_body(alloc, link, piece, bytes, start, count),
+        BodyPlan::Chunked => chunked_body(alloc, link, piece, bytes, start),
+        BodyPlan::ToEnd => body_to_end(alloc, link, piece, bytes, start),
         BodyPlan::Bad => Err(HttpFault::BadBody { place: start }),
         BodyPlan::TooLarge => Err(HttpFault::TooLarge),
     }

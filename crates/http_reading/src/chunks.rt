@@ -7,6 +7,7 @@ ghost use Rattle.http_reading.specs.ChunkReads.{ChunkRead, ChunkFault};
 use super::body::Body;
 use super::close::read_close;
 use super::fault::HttpFault;
+use super::piece::Piece;
 use super::plan::BodyPlan;
 use super::size_line::read_size;
 use job_values::Seq;
@@ -26,6 +27,7 @@ pub(crate) struct ReadTo {
 /// Reads the chunk that begins at `at`, and puts its content behind the body.
 fn read_chunk<L: Link>(
     link: &mut L,
+    piece: &mut Piece,
     bytes: &mut Vec<u8>,
     at: usize,
     body: &mut Vec<u8>,
@@ -35,13 +37,13 @@ fn read_chunk<L: Link>(
     ensures ok { IfOk result (ChunkRead L.left L.seen L.taken L.met L.dial L.faults link.old link.new bytes.old.items bytes.new.items at body.old.items body.new.items) }
     ensures err { IfErr result (Fails L.left L.seen L.taken L.met L.dial L.faults link.old link.new bytes.old.items (ChunkFault at (length body.old.items))) }
 {
-    let line = read_size(link, bytes, at)?;
+    let line = read_size(link, piece, bytes, at)?;
     if line.size > LONGEST_BODY - body.len() {
         return Err(HttpFault::TooLarge);
     }
     let content = at + line.len;
     let end = content + line.size;
-    read_close(link, bytes, end)?;
+    read_close(link, piece, bytes, end)?;
     match body.extend_from_slice(&bytes[content..end]) {
         Ok(()) => Ok(ReadTo {
             end: end + 2,
@@ -55,6 +57,7 @@ fn read_chunk<L: Link>(
 pub(crate) fn chunked_body<L: Link>(
     alloc: Global,
     link: &mut L,
+    piece: &mut Piece,
     bytes: &mut Vec<u8>,
     start: usize,
 ) -> Result<Body, HttpFault>
@@ -65,7 +68,7 @@ pub(crate) fn chunked_body<L: Link>(
     let mut body = Vec::new(alloc);
     let mut at = start;
     loop {
-        let read = read_chunk(link, bytes, at, &mut body)?;
+        let read = read_chunk(link, piece, bytes, at, &mut body)?;
         at = read.end;
         if read.last {
             return Ok(Body {

@@ -5,6 +5,7 @@ ghost use Rattle.http_reading.specs.Draws.{Draws, Fails};
 
 use super::fault::HttpFault;
 use super::fill::fill;
+use super::piece::Piece;
 use outside::Link;
 
 /// Whether CR LF is at the front of the bytes; an `Err` has the place of the byte that stands in its way.
@@ -44,6 +45,7 @@ fn closed_at(bytes: &[u8], end: usize) -> Result<bool, HttpFault>
 /// Reads until the content that ends at `end` and its CR LF are there.
 pub(crate) fn read_close<L: Link>(
     link: &mut L,
+    piece: &mut Piece,
     bytes: &mut Vec<u8>,
     end: usize,
 ) -> Result<(), HttpFault>
@@ -51,7 +53,7 @@ pub(crate) fn read_close<L: Link>(
     ensures err { IfErr result (Fails L.left L.seen L.taken L.met L.dial L.faults link.old link.new bytes.old.items (CloseFault end)) }
 {
     while !closed_at(bytes.as_slice(), end)? {
-        if fill(link, bytes)? {
+        if fill(link, piece, bytes)? {
             return Err(HttpFault::Ended { taken: bytes.len() });
         }
     }

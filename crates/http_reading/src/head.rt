@@ -1,7 +1,7 @@
 //! The head of a request.
 ghost use Rattle.std.specs.Prelude.{◌≡◌, ◌≢◌, ℕ, ◌<◌, ◌≤◌, true, false, take, List, Bool, All, length, map, IfOk, IfErr, MatchOption};
 ghost use Rattle.httparse.specs.Spans.{IsWithin, IsHeaderWithin, header_bytes};
-ghost use Rattle.http_reading.specs.Plans.{most_line, token_of};
+ghost use Rattle.http_reading.specs.Plans.{token_of};
 ghost use Rattle.http_reading.specs.Heads.{HeadSays, HeadAt, HeadRefused};
 ghost use Rattle.http_reading.specs.Requests.{OpenHead};
 
@@ -27,7 +27,7 @@ pub(crate) struct Head {
 
 /// The bytes that a head may have.
 pub(crate) fn front(bytes: &[u8]) -> &[u8]
-    ensures { result.now ≡ take most_line bytes.now }
+    ensures { result.now ≡ take MOST_LINE bytes.now }
 {
     if bytes.len() <= MOST_LINE {
         bytes

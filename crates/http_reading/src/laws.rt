@@ -1,6 +1,7 @@
 //! What holds of every list of bytes, every request and every fault.
 ghost use Rattle.std.specs.Prelude.{◌≡◌};
 ghost use Rattle.job_values.specs.declared.limits.TheConstants.{LONGEST_BODY};
+ghost use Rattle.http_reading.specs.declared.plan.TheConstants.{MOST_LINE, MOST_FIELDS};
 ghost use Rattle.http_reading.specs.Laws.{OneRequest, NoFault, NoneNoFault, OneFault};
 
 /// Bytes begin with at most one request, and what follows it is told.
@@ -21,5 +22,7 @@ pub fn law_one_fault()
 
 /// The numbers that the definitions cite.
 pub fn law_numbers()
-    ensures { LONGEST_BODY ≡ 1048576 }
+    ensures body { LONGEST_BODY ≡ 1048576 }
+    ensures line { MOST_LINE ≡ 16384 }
+    ensures fields { MOST_FIELDS ≡ 64 }
 {}

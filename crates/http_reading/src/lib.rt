@@ -10,6 +10,7 @@ mod fields;
 mod fill;
 mod head;
 mod laws;
+mod piece;
 mod plan;
 mod request;
 mod response;

@@ -3,12 +3,13 @@ ghost use Rattle.std.specs.Prelude.{◌≡◌, ◌≤◌, [], true, false, Err, 
 ghost use Rattle.outside.specs.Causes.{Rose};
 ghost use Rattle.http_reading.specs.Draws.{Fails};
 ghost use Rattle.http_reading.specs.Heads.{HeadRead};
-ghost use Rattle.http_reading.specs.Requests.{HeadFault, HasFault, Took, stream, TakesNone, TakesRequest, FaultOf, IsEnd};
+ghost use Rattle.http_reading.specs.Requests.{HeadFault, HasFault, Took, stream, MeetsEnd, TakesNone, TakesRequest, FaultOf, IsEnd};
 
 use super::body::{drop_front, read_body};
 use super::fault::HttpFault;
 use super::fill::fill_line;
 use super::head::{Head, parse_head};
+use super::piece::Piece;
 use job_values::Seq;
 use outside::Link;
 use std::alloc::Global;
@@ -29,6 +30,7 @@ pub struct Request {
 /// What a link gave beyond the requests that were read. One buffer goes with one link.
 #[derive(Drop)]
 pub struct HttpBuffer {
+    piece: Piece,
     bytes: Vec<u8>,
     faulted: bool,
 }
@@ -47,6 +49,7 @@ impl HttpBuffer {
         ensures { result ≡ record { bytes = []; faulted = false } }
     {
         HttpBuffer {
+            piece: Piece::new(alloc),
             bytes: Vec::new(alloc),
             faulted: false,
         }
@@ -57,12 +60,13 @@ impl HttpBuffer {
 fn read_head<L: Link>(
     alloc: Global,
     link: &mut L,
+    piece: &mut Piece,
     bytes: &mut Vec<u8>,
 ) -> Result<Option<Head>, HttpFault>
     ensures ok { IfOk result (HeadRead L.left L.seen L.taken L.met L.dial L.faults link.old link.new bytes.old.items bytes.new.items) }
     ensures err { IfErr result (Fails L.left L.seen L.taken L.met L.dial L.faults link.old link.new bytes.old.items HeadFault) }
 {
-    let mut ended = bytes.is_empty() && fill_line(link, bytes, 0)?;
+    let mut ended = bytes.is_empty() && fill_line(link, piece, bytes, 0)?;
     loop {
         if let Some(head) = parse_head(alloc, bytes.as_slice())? {
             return Ok(Some(head));
@@ -73,7 +77,7 @@ fn read_head<L: Link>(
                 taken => Err(HttpFault::Ended { taken }),
             };
         }
-        ended = fill_line(link, bytes, 0)?;
+        ended = fill_line(link, piece, bytes, 0)?;
     }
 }
 
@@ -81,15 +85,16 @@ fn read_head<L: Link>(
 fn take_request<L: Link>(
     alloc: Global,
     link: &mut L,
+    piece: &mut Piece,
     bytes: &mut Vec<u8>,
 ) -> Result<Option<Request>, HttpFault>
     ensures ok { IfOk result (Took L.left L.seen L.taken L.met L.dial L.faults link.old link.new bytes.old.items bytes.new.items) }
     ensures err { IfErr result (Fails L.left L.seen L.taken L.met L.dial L.faults link.old link.new bytes.old.items HasFault) }
 {
-    let Some(head) = read_head(alloc, link, bytes)? else {
+    let Some(head) = read_head(alloc, link, piece, bytes)? else {
         return Ok(None);
     };
-    let body = read_body(alloc, link, bytes, head.len, head.plan)?;
+    let body = read_body(alloc, link, piece, bytes, head.len, head.plan)?;
     drop_front(bytes, body.end);
     Ok(Some(Request {
         method: head.method,
@@ -113,6 +118,8 @@ pub fn read_request<L: Link>(
         (TakesNone (stream buffer.old.bytes (L.left link.old)) (stream buffer.new.bytes (L.left link.new)))
         (TakesRequest (stream buffer.old.bytes (L.left link.old)) (stream buffer.new.bytes (L.left link.new)))) }
     ensures fault { IfErr result (λ e. buffer.old.faulted ≡ false → FaultOf (stream buffer.old.bytes (L.left link.old)) e) }
+    // The end is met where there is no request, and not else: a call reads no further once it holds one.
+    ensures early { IfOk result (MeetsEnd (L.met link.old) (L.met link.new)) }
     // `None` and `Ended` come only where the link's end was met, whether the link tells its bytes or not.
     ensures none { IfOk result (λ o. IsNone o → L.met link.new ≡ true) }
     ensures ended { IfErr result (λ e. buffer.old.faulted ≡ false → IsEnd e → L.met link.new ≡ true) }
@@ -129,7 +136,7 @@ pub fn read_request<L: Link>(
     if buffer.faulted {
         return Err(HttpFault::Ended { taken: 0 });
     }
-    match take_request(alloc, link, &mut buffer.bytes) {
+    match take_request(alloc, link, &mut buffer.piece, &mut buffer.bytes) {
         Ok(request) => Ok(request),
         Err(fault) => {
             buffer.faulted = true;

@@ -8,6 +8,7 @@ ghost use Rattle.http_reading.specs.Responses.{TopFault, HearsAnswer, HearsFault
 use super::body::read_body;
 use super::fault::HttpFault;
 use super::fill::fill_line;
+use super::piece::Piece;
 use super::top::{Top, parse_top};
 use job_values::Seq;
 use outside::Link;
@@ -21,7 +22,7 @@ pub struct Response {
 }
 
 /// Reads until a head is whole.
-fn read_top<L: Link>(link: &mut L, bytes: &mut Vec<u8>) -> Result<Top, HttpFault>
+fn read_top<L: Link>(link: &mut L, piece: &mut Piece, bytes: &mut Vec<u8>) -> Result<Top, HttpFault>
     ensures ok { IfOk result (TopRead L.left L.seen L.taken L.met L.dial L.faults link.old link.new bytes.old.items bytes.new.items) }
     ensures err { IfErr result (Fails L.left L.seen L.taken L.met L.dial L.faults link.old link.new bytes.old.items TopFault) }
 {
@@ -33,7 +34,7 @@ fn read_top<L: Link>(link: &mut L, bytes: &mut Vec<u8>) -> Result<Top, HttpFault
         if ended {
             return Err(HttpFault::Ended { taken: bytes.len() });
         }
-        ended = fill_line(link, bytes, 0)?;
+        ended = fill_line(link, piece, bytes, 0)?;
     }
 }
 
@@ -50,9 +51,10 @@ pub fn read_response<L: Link>(alloc: Global, link: &mut L) -> Result<Response, H
     ensures written { L.taken link.new ≡ L.taken link.old }
     ensures place { L.dial link.new ≡ L.dial link.old }
 {
+    let mut piece = Piece::new(alloc);
     let mut bytes = Vec::new(alloc);
-    let top = read_top(link, &mut bytes)?;
-    let body = read_body(alloc, link, &mut bytes, top.len, top.plan)?;
+    let top = read_top(link, &mut piece, &mut bytes)?;
+    let body = read_body(alloc, link, &mut piece, &mut bytes, top.len, top.plan)?;
     Ok(Response {
         status: top.status,
         body: body.bytes,

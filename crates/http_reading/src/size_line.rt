@@ -8,6 +8,7 @@ ghost use Rattle.http_reading.specs.Draws.{Draws, Fails};
 use super::fault::HttpFault;
 use super::fill::fill_line;
 use super::head::front;
+use super::piece::Piece;
 use super::plan::MOST_LINE;
 use httparse::{Status, parse_chunk_size};
 use outside::Link;
@@ -85,6 +86,7 @@ fn parse_size(bytes: &[u8], at: usize) -> Result<Option<SizeLine>, HttpFault>
 /// Reads until the line that begins at `at` is whole.
 pub(crate) fn read_size<L: Link>(
     link: &mut L,
+    piece: &mut Piece,
     bytes: &mut Vec<u8>,
     at: usize,
 ) -> Result<SizeLine, HttpFault>
@@ -100,6 +102,6 @@ pub(crate) fn read_size<L: Link>(
         if ended {
             return Err(HttpFault::Ended { taken: bytes.len() });
         }
-        ended = fill_line(link, bytes, at)?;
+        ended = fill_line(link, piece, bytes, at)?;
     }
 }

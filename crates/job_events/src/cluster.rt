@@ -1,10 +1,11 @@
 //! The events of the cluster, their replies and their refusals.
 
-use super::opened::{FiredTicket, Opened};
+use super::opened::{FiredChild, FiredTicket, Opened};
+use super::order::Order;
 use super::shown_log::ShownLog;
 use job_values::{
-    Addresses, AdminNo, AppName, Case, Edition, GroupId, GroupKind, JobId, JobSpec, LogId, Moment,
-    ParamText, ScheduleFault, Seq, ZoneFault,
+    Address, Addresses, AdminNo, AppName, CallbackItem, Case, Edition, GroupId, GroupKind, JobId,
+    JobSpec, LogId, Moment, ParamText, PoolKind, RegistryText, ScheduleFault, Seq, ZoneFault,
 };
 
 /// What happens to the cluster.
@@ -38,6 +39,24 @@ pub enum ClusterEvent {
     ScanStep(AdminNo),
     /// The ring of an admin turns at a moment.
     Turn(AdminNo, Moment),
+    /// An admin takes the first log of one of its pools, at a moment and with a word for a random choice.
+    Take(AdminNo, PoolKind, Moment, u64),
+    /// A log was sent to an address, or to none, with a code; the sending began and ended at these moments.
+    Sent(LogId, Option<Address>, i32, Moment, Moment),
+    /// An admin takes the result of a log at a moment.
+    Callback(AdminNo, Moment, CallbackItem),
+    /// An executor says at a moment that it is there: the group of its call, its app and its address.
+    Registry(Moment, RegistryText, RegistryText, RegistryText),
+    /// It says that it is gone.
+    RegistryRemove(RegistryText, RegistryText, RegistryText),
+    /// The registrations that are dead at a moment are dropped, and the automatic groups get their lists.
+    Sweep(Moment),
+    /// An admin marks the first failed log at a moment, and tries it again.
+    Monitor(AdminNo, Moment),
+    /// The first log that is lost at a moment gets its end.
+    Lost(Moment),
+    /// The logs from before a moment are dropped, but those that wait to be sent.
+    Clean(Moment),
     /// What is known of a log.
     ReadLog(LogId),
     /// All admins stop.
@@ -80,6 +99,24 @@ pub enum ClusterReply {
     Fired(Seq<FiredTicket>),
     /// The logs that a firing by hand opened.
     Opened(Seq<Opened>),
+    /// What the taken log is to run, and where.
+    Took(Order),
+    /// The log has its result, with this code; the children that it fired, in order.
+    Settled {
+        code: i32,
+        children: Seq<FiredChild>,
+    },
+    /// How many registrations were dropped.
+    Swept(u64),
+    /// The log that was marked, and the log that tries it again, if there is one.
+    Marked {
+        log: LogId,
+        opened: Seq<Opened>,
+    },
+    /// The log that was lost.
+    Lost(LogId),
+    /// How many logs were dropped.
+    Cleaned(u64),
     /// The log.
     Shown(ShownLog),
     /// How many tickets a stop lost, and how many logs it gave their end.
@@ -107,6 +144,22 @@ pub enum ClusterRefusal {
     Busy(AdminNo),
     /// The admin owns no scan.
     NotScanning,
+    /// The pool has no log.
+    Empty,
+    /// The code of a sending or of a result is not positive.
+    BadCode,
+    /// The log has this trigger code.
+    AlreadySent(i32),
+    /// The log waits in a pool, or is nowhere: no take gave it.
+    NotTaken,
+    /// The address is none of those that the take of the log gave, or there is none and the code is that of success.
+    WrongAddress,
+    /// The log has a result already, with this code.
+    Repeat(i32),
+    /// The group of a call is not that of executors, or its app or its address is empty.
+    BadRegistry,
+    /// No log is failed and unmarked, or none is lost.
+    NothingDone,
     /// No group has the id.
     NoGroup,
     /// No job has the id.

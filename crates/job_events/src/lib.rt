@@ -12,7 +12,7 @@ pub use cluster::{ClusterEvent, ClusterRefusal, ClusterReply};
 pub use executor::{
     ExecutorEvent, ExecutorRefusal, ExecutorReply, FinishCode, PolledRun, ReadLines,
 };
-pub use opened::{FiredTicket, Opened};
+pub use opened::{FiredChild, FiredTicket, Opened};
 pub use order::Order;
 pub use report::Report;
 pub use shown_log::ShownLog;

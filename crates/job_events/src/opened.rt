@@ -17,3 +17,10 @@ pub struct FiredTicket {
     pub due: Moment,
     pub opened: Seq<Opened>,
 }
+
+/// A child that a result fired, and the logs that it opened.
+#[derive(Drop)]
+pub struct FiredChild {
+    pub job: JobId,
+    pub opened: Seq<Opened>,
+}

@@ -103,7 +103,7 @@ pub start-planned : (kept : Kept) (at job edition next : ℕ) (row new : Job) �
     → IsPlanned kept (StartJob at job) (record { reply = Running edition next; changes = change.PutJob new ∷ []; node = node.Nothing })
 start-planned kept at job edition next row new rules found first below raises made =
     planned-rows kept (StartJob at job) (Running edition next) (change.PutJob new ∷ []) (turn-allowed kept.tables job row new edition (Some next) rules found made) refl tt refl
-    (λ h. record { scan = refl; nodes = refl })
+    (λ h. record { scan = refl; taken = refl; nodes = refl })
     (λ h s. start-reply kept h at job s
     ∙ ap (running_reply kept.settings at) found
     ∙ ap (edition_reply row.edition) first
@@ -123,7 +123,7 @@ pub stop-planned : (kept : Kept) (job edition : ℕ) (row new : Job) → KeepsRu
     → IsPlanned kept (StopJob job) (record { reply = Halted edition; changes = change.PutJob new ∷ []; node = node.Nothing })
 stop-planned kept job edition row new rules found below raises made =
     planned-rows kept (StopJob job) (Halted edition) (change.PutJob new ∷ []) (turn-allowed kept.tables job row new edition None rules found made) refl tt refl
-    (λ h. record { scan = refl; nodes = refl })
+    (λ h. record { scan = refl; taken = refl; nodes = refl })
     (λ h s. stop-reply kept h job s ∙ ap halt_reply found ∙ raised (Halted (row.edition + 1)) row.edition below ∙ ap (λ n. Halted n) (sym raises))
     (λ h s.
     let there = row-stands kept h job row found s in
@@ -190,7 +190,7 @@ update-planned kept at job edition spec copied plan zone next row new rules foun
     let is : new ≡ updated_row spec plan edition next row = made ∙ ap (λ x. updated_row x plan edition next row) same in
     let raises = again-is row.edition edition (is_some row.next) (updated_time zone plan at row.next) next says in
     planned-rows kept (UpdateJob at job spec) (Updated edition next) (change.PutJob new ∷ []) (edit-allowed kept.tables job row new spec plan edition next rules found is said (zone-says spec.zone kept.settings.offset zone clock) group) refl tt refl
-    (λ h. record { scan = refl; nodes = refl })
+    (λ h. record { scan = refl; taken = refl; nodes = refl })
     (λ h s. update-reply kept h at job spec s ∙ update-found kept at job spec row plan zone found group said clock ∙ says)
     (λ h s.
     let there = row-stands kept h job row found s in

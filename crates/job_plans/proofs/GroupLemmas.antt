@@ -68,7 +68,7 @@ pub add_group-planned : (kept : Kept) (app copied : List ℕ) (kind : GroupKind)
 add_group-planned kept app copied kind addresses list id last rules room ids here same equal is =
     let new : Group = record { id = id; app = copied; kind = kind; addresses = list } in
     planned-rows kept (AddGroup app kind addresses) (GroupReply id) (adding_group last new) (add-allowed kept.tables new last rules room ids here is) refl tt refl
-    (λ h. record { scan = refl; nodes = refl })
+    (λ h. record { scan = refl; taken = refl; nodes = refl })
     (λ h s. add-reply kept h app kind addresses s ∙ group-room (length kept.tables.groups) kept.tables.last.group room ids ∙ ap (λ n. GroupReply n) (sym here))
     (λ h s.
     let number : id ≡ last_group h + 1 = here ∙ ap (λ (t : Tables). t.last.group + 1) s.keeps.tables in
@@ -90,7 +90,7 @@ set_group-planned kept group kind addresses row new rules found made =
     let present : group_with new.id kept.tables.groups ≡ Some row = subst (λ n. group_with n kept.tables.groups ≡ Some row) (sym id) found in
     let within = found-within (λ (x : Group). x.id) 0 kept.tables.last.group new.id kept.tables.groups row rules.groups.rising present in
     planned-rows kept (SetGroup group kind addresses) Done (change.PutGroup new ∷ []) (keeps_group kept.tables new rules (omega (arith, within.0)) within.1 (inl (ap is_some present)), tt) refl tt refl
-    (λ h. record { scan = refl; nodes = refl })
+    (λ h. record { scan = refl; taken = refl; nodes = refl })
     (λ h s. set-reply kept h group kind addresses s ∙ ap (λ o. done_if (is_some o) NoGroup) found)
     (λ h s.
     let there : group_with group (groups_of h) ≡ Some row = subst (λ (t : Tables). group_with group t.groups ≡ Some row) s.keeps.tables found in

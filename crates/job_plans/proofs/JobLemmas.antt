@@ -158,7 +158,7 @@ pub add_job-planned : (kept : Kept) (spec copied : JobSpec) (plan : Plan) (zone 
 add_job-planned kept spec copied plan zone id last rules group said clock room ids here same is =
     planned-rows kept (AddJob spec) (JobReply id) (adding_job last (new_row id copied plan))
     (subst (λ (x : JobSpec). AreAllowed kept.tables (adding_job last (new_row id x plan))) (sym same) (add-allowed kept.tables spec plan id last rules group said (zone-says spec.zone kept.settings.offset zone clock) room ids here is)) refl tt refl
-    (λ h. record { scan = refl; nodes = refl })
+    (λ h. record { scan = refl; taken = refl; nodes = refl })
     (λ h s. add-reply kept h spec s ∙ job-reply_found kept spec plan zone group said clock ∙ job-room (length kept.tables.jobs) kept.tables.last.job room ids ∙ ap (λ n. JobReply n) (sym here))
     (λ h s.
     let number : id ≡ last_job h + 1 = here ∙ ap (λ (t : Tables). t.last.job + 1) s.keeps.tables in
@@ -188,6 +188,6 @@ remove-reply kept h job s = sym (ap (λ (t : Tables). done_if (is_some (job_with
 pub remove-planned : (kept : Kept) (job : ℕ) → KeepsRules kept.tables → is_some (job_with job kept.tables.jobs) ≡ true → IsPlanned kept (RemoveJob job) (record { reply = Done; changes = change.DropJob job ∷ []; node = node.Nothing })
 remove-planned kept job rules present =
     planned-rows kept (RemoveJob job) Done (change.DropJob job ∷ []) (keeps_drop_job kept.tables job rules, tt) refl tt refl
-    (λ h. record { scan = refl; nodes = refl })
+    (λ h. record { scan = refl; taken = refl; nodes = refl })
     (λ h s. remove-reply kept h job s ∙ ap (λ b. done_if b NoJob) present)
     (λ h s. ap (λ js. with_jobs h js (records_of h).last) (rows-without h job (ids_of h)))

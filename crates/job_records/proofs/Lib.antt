@@ -8,3 +8,4 @@ pub mod AllowLemmas
 pub mod RegistryLemmas
 pub mod KeyLemmas
 pub mod BatchLemmas
+pub mod IndexLemmas

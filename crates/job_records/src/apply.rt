@@ -12,7 +12,7 @@ use super::records::Records;
 use super::registry_batches::{drop_registrations, first_registry_drops};
 use super::registry_edits::{drop_registration, put_registration};
 use job_values::Seq;
-use rising_rows::{put, take, take_all};
+use rising_rows::put;
 use std::mem::replace;
 
 impl Records {
@@ -25,10 +25,10 @@ impl Records {
     {
         match change {
             Change::PutGroup(group) => put(&mut self.groups, group),
-            Change::PutJob(job) => put(&mut self.jobs, job),
-            Change::DropJob(id) => take(&mut self.jobs, id.get() as u64),
-            Change::PutLog(log) => put(&mut self.logs, log),
-            Change::DropLog(id) => take(&mut self.logs, id.get()),
+            Change::PutJob(job) => self.jobs.put(job),
+            Change::DropJob(id) => self.jobs.take(id),
+            Change::PutLog(log) => self.logs.put(log),
+            Change::DropLog(id) => self.logs.take(id),
             Change::PutRegistry(row) => put_registration(&mut self.registry, row),
             Change::DropRegistry { key, value } => drop_registration(
                 &mut self.registry,
@@ -47,8 +47,8 @@ impl Records {
         ensures room { HasNoLessRoom self.old.room self.new.room }
     {
         match kind {
-            Dropped::Job => take_all(&mut self.jobs, drops),
-            Dropped::Log => take_all(&mut self.logs, drops),
+            Dropped::Job => self.jobs.take_all(drops),
+            Dropped::Log => self.logs.take_all(drops),
         }
     }
 

@@ -1,5 +1,5 @@
 //! The rows that the admins share: jobs, groups, logs and registrations, each list in order of its
-//! ids, and how a row is found by its id.
+//! ids, how a row is found by its id, and the indexes that are kept with them.
 #![tactic(auto)]
 
 mod allow;
@@ -9,10 +9,12 @@ mod drop_batches;
 mod drops;
 pub mod group;
 pub mod job;
+mod job_rows;
 mod keys;
 pub mod last_ids;
 pub mod laws;
 pub mod log;
+mod log_rows;
 pub mod records;
 pub mod registry;
 mod registry_batches;

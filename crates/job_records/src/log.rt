@@ -1,7 +1,9 @@
 //! The row of a log.
 
 ghost use Rattle.std.specs.Prelude.{◌≡◌, IfOk};
+ghost use Rattle.job_records.specs.LogClasses.{is_failed, is_awaited};
 
+use job_values::limits::SUCCESS;
 use job_values::{
     Address, Block, GroupId, HandlerName, JobId, LogId, Moment, NoMemory, ParamText, ResultText,
     Retries, Route, ShardNo, Timeout, TriggerKind,
@@ -50,6 +52,22 @@ impl Keyed for Log {
 }
 
 impl Log {
+    /// Whether it is neither under way nor settled with success.
+    pub fn is_failed(&self) -> bool
+        ensures { result ≡ is_failed self.now }
+    {
+        let under_way = (self.trigger_code == 0 || self.trigger_code == SUCCESS)
+            && self.result_code == 0;
+        !under_way && self.result_code != SUCCESS
+    }
+
+    /// Whether it was sent with success and has no result.
+    pub fn is_awaited(&self) -> bool
+        ensures { result ≡ is_awaited self.now }
+    {
+        self.trigger_code == SUCCESS && self.result_code == 0
+    }
+
     /// Another row that says the same.
     pub fn copy(&self, alloc: Global) -> Result<Log, NoMemory>
         ensures { IfOk result (λ row. row ≡ self.now) }

@@ -1,17 +1,22 @@
 //! The records: the rows that the admins share, found by their ids and changed by lists of changes.
 ghost use Rattle.std.specs.Prelude.{◌≡◌};
 ghost use Rattle.std.specs.Option.{option_copied};
-ghost use Rattle.rising_rows.specs.Rising.{row_with};
+ghost use Rattle.rising_rows.specs.Rising.{row_with, RisesFrom};
 ghost use Rattle.job_records.specs.Tables.{no_rows};
 ghost use Rattle.job_records.specs.Rules.{KeepsRules};
+ghost use Rattle.job_records.specs.DueJobs.{due_entries};
+ghost use Rattle.job_records.specs.LogClasses.{is_unmarked, is_awaited, log_ids};
 
 use super::group::Group;
 use super::job::Job;
+use super::job_rows::JobRows;
 use super::last_ids::LastIds;
 use super::log::Log;
+use super::log_rows::LogRows;
 use super::registry::RegistryRow;
 use job_values::{GroupId, JobId, LogId};
 use rising_rows::row_of;
+use row_indexes::{DueIndex, LogIndex};
 use std::alloc::Global;
 use std::marker::Model;
 
@@ -19,8 +24,8 @@ use std::marker::Model;
 #[derive(Drop)]
 pub struct Records {
     pub(crate) groups: Vec<Group>,
-    pub(crate) jobs: Vec<Job>,
-    pub(crate) logs: Vec<Log>,
+    pub(crate) jobs: JobRows,
+    pub(crate) logs: LogRows,
     pub(crate) registry: Vec<RegistryRow>,
     pub(crate) last: LastIds,
 }
@@ -33,16 +38,16 @@ impl Model for Records {
     ghost Value = { RecordsState };
 
     ghost view = { λ r. record {
-      kept = record { groups = r.groups.items; jobs = r.jobs.items; logs = r.logs.items; registry = r.registry.items; last = r.last };
+      kept = record { groups = r.groups.items; jobs = r.jobs.rows; logs = r.logs.rows; registry = r.registry.items; last = r.last };
       room = record {
         groups = vec_capacity r.groups - vec_len r.groups;
-        jobs = vec_capacity r.jobs - vec_len r.jobs;
-        logs = vec_capacity r.logs - vec_len r.logs;
+        jobs = r.jobs.room;
+        logs = r.logs.room;
         registry = vec_capacity r.registry - vec_len r.registry;
       };
     } };
 
-    ghost invariant = { λ r. KeepsRules (record { groups = r.groups.items; jobs = r.jobs.items; logs = r.logs.items; registry = r.registry.items; last = r.last }) };
+    ghost invariant = { λ r. KeepsRules (record { groups = r.groups.items; jobs = r.jobs.rows; logs = r.logs.rows; registry = r.registry.items; last = r.last }) };
 }
 
 impl Records {
@@ -52,8 +57,8 @@ impl Records {
     {
         Records {
             groups: Vec::new(alloc),
-            jobs: Vec::new(alloc),
-            logs: Vec::new(alloc),
+            jobs: JobRows::new(alloc),
+            logs: LogRows::new(alloc),
             registry: Vec::new(alloc),
             last: LastIds {
                 group: 0,
@@ -110,6 +115,22 @@ impl Records {
         ensures { result.now ≡ self.now.kept.registry }
     {
         self.registry.as_slice()
+    }
+
+    /// The running jobs by their next times.
+    pub fn due(&self) -> &DueIndex
+        ensures { result.now.keys ≡ due_entries self.now.kept.jobs }
+    {
+        self.jobs.due()
+    }
+
+    /// The failed logs that no monitor chose, and the awaited logs.
+    pub fn log_index(&self) -> &LogIndex
+        ensures rising { RisesFrom (λ log. log.id) 0 self.now.kept.logs }
+        ensures failed { result.now.failed ≡ log_ids is_unmarked self.now.kept.logs }
+        ensures awaited { result.now.awaited ≡ log_ids is_awaited self.now.kept.logs }
+    {
+        self.logs.index()
     }
 
     /// The last ids that were given.

@@ -1,5 +1,5 @@
 -- What a firing of an admin makes of the rows and of the pools.
-use Rattle.std.proofs.Common.{◌≡◌, ℕ, ◌+◌, ◌<◌, ◌≤◌, List, [], ◌∷◌, ◌++◌, Bool, true, false, cond, eqb, length, map, All, refl, sym, ap, ◌∙◌, subst, append_assoc, append-nil, length-append, arith}
+use Rattle.std.proofs.Common.{◌≡◌, ℕ, ◌+◌, ◌<◌, ◌≤◌, List, [], ◌∷◌, ◌++◌, Bool, true, false, cond, eqb, ◌||◌, length, map, All, refl, sym, ap, ◌∙◌, subst, append_assoc, append-nil, length-append, arith}
 use Rattle.std.proofs.Common.{pos}
 use Rattle.std.specs.List.{list_any}
 use Rattle.std.specs.Ordering.{int_eq}
@@ -8,8 +8,7 @@ use Rattle.job_values.specs.declared.limits.TheConstants.{ADMINS, LAST_LOG_ID}
 use Rattle.job_values.specs.declared.words.PoolAnswer.{PoolAnswer}
 use Rattle.job_values.specs.declared.words.PoolAnswer.TheVariants.{Fast, Slow, Full}
 use Rattle.job_records.specs.declared.change.Change.{Change}
-use Rattle.job_records.specs.declared.change.Change.TheVariants.{PutLog, PutJob}
-use Rattle.job_records.specs.declared.job.Job.{Job}
+use Rattle.job_records.specs.declared.change.Change.TheVariants.{PutLog}
 use Rattle.job_records.specs.declared.last_ids.LastIds.{LastIds}
 use Rattle.job_records.specs.declared.log.Log.{Log}
 use Rattle.job_records.specs.Rows.{IsRising}
@@ -18,22 +17,21 @@ use Rattle.job_records.specs.Tables.{Tables}
 use Rattle.job_records.specs.Changes.{applied_all, AreAllowed}
 use Rattle.job_records.proofs.Keeping.{keeps_last, put_logs_behind, put_logs_allowed}
 use Rattle.trigger_pool.specs.Pool.{Queues, with_log}
-use Rattle.trigger_pool.specs.Reports.{no_counts}
+use Rattle.trigger_pool.specs.Reports.{SlowCounts}
 use Rattle.job_values.specs.declared.words.PoolKind.{PoolKind}
 use Rattle.job_values.specs.declared.words.PoolKind.TheVariants.{Fast as FastPool, Slow as SlowPool}
-use Rattle.job_events.specs.declared.cluster.ClusterEvent.TheVariants.{NodeStart, NodeStop, NodeAsk, AddGroup, SetGroup, AddJob, UpdateJob, StartJob, StopJob, RemoveJob, TriggerJob, ScanBegin, ScanStep, Turn, ReadLog, Reopen}
-use Rattle.trigger_pool.specs.Reports.{Sending}
-use Rattle.cluster_history.specs.History.{History, Begin, After}
-use Rattle.cluster_history.specs.Openings.{Pools, pools_by, Placed, placed_from, pool_of, one_more, log_of, rows_of, added_to}
+use Rattle.cluster_history.specs.History.{History}
+use Rattle.cluster_history.specs.Openings.{Pools, Placed, placed_from, pool_of, one_more, log_of, rows_of, added_to}
 use Rattle.cluster_history.specs.Logs.{queue_of, sendings_of, last_log, pools_of, placed_at, placed_by}
 use Rattle.cluster_history.specs.Firings.{Shot}
 use Rattle.cluster_plan.specs.Kept.{Kept, pools_at, pools_in}
 use Rattle.cluster_plan.specs.Nodes.{entered}
 use Rattle.cluster_plan.specs.Plans.{HasIdsFirst, gives_ids}
 use Rattle.log_opening.specs.Openings.{put_of, entering_of, opening_changes, with_last_log}
-use Rattle.cluster_plan.specs.Stands.{Stands, queues_of}
+use Rattle.cluster_plan.specs.Stands.{Stands, counts_of, queues_of}
 use Rattle.cluster_history.specs.Records.{records_of}
 use Rattle.cluster_plan.proofs.AdminLemmas.{same-admin, other-admin}
+use Rattle.cluster_plan.proofs.SentLemmas.{pools-kept}
 use Rattle.cluster_plan.proofs.StandsLemmas.{pools-stand}
 
 -- the rows of logs that are opened from a last id on
@@ -98,24 +96,24 @@ puts-give_none : (placed : List Placed) → list_any gives_ids (map put_of place
 puts-give_none [] = refl
 puts-give_none (one ∷ placed) = puts-give_none placed
 
-puts-give_none_job : (placed : List Placed) (row : Job) → list_any gives_ids (map put_of placed ++ PutJob row ∷ []) ≡ false
-puts-give_none_job [] row = refl
-puts-give_none_job (one ∷ placed) row = puts-give_none_job placed row
+puts-give_none_behind : (placed : List Placed) (change : Change) → gives_ids change ≡ false → list_any gives_ids (map put_of placed ++ change ∷ []) ≡ false
+puts-give_none_behind [] change none = ap (λ b. b || false) none
+puts-give_none_behind (one ∷ placed) change none = puts-give_none_behind placed change none
 
 opening-ids : (last : LastIds) (log : ℕ) (placed : List Placed) → HasIdsFirst (opening_changes last log (map put_of placed))
 opening-ids last log [] = refl
 opening-ids last log (one ∷ placed) = puts-give_none (one ∷ placed)
 
-opening-ids_job : (last : LastIds) (log : ℕ) (placed : List Placed) (row : Job) → HasIdsFirst (opening_changes last log (map put_of placed) ++ PutJob row ∷ [])
-opening-ids_job last log [] row = refl
-opening-ids_job last log (one ∷ placed) row = puts-give_none_job (one ∷ placed) row
+opening-ids_behind : (last : LastIds) (log : ℕ) (placed : List Placed) (change : Change) → gives_ids change ≡ false → HasIdsFirst (opening_changes last log (map put_of placed) ++ change ∷ [])
+opening-ids_behind last log [] change none = refl
+opening-ids_behind last log (one ∷ placed) change none = puts-give_none_behind (one ∷ placed) change none
 
--- a firing gives the last ids first, also where the row of its job is put behind
+-- a firing gives the last ids first, also where a row is put behind
 pub fired-ids : (t : Tables) (pools : Pools) (shots : List Shot) → HasIdsFirst (opening_changes t.last (t.last.log + length shots) (map put_of (placed_from t.last.log pools shots)))
 fired-ids t pools shots = opening-ids t.last (t.last.log + length shots) (placed_from t.last.log pools shots)
 
-pub fired-ids_job : (t : Tables) (pools : Pools) (shots : List Shot) (row : Job) → HasIdsFirst (opening_changes t.last (t.last.log + length shots) (map put_of (placed_from t.last.log pools shots)) ++ PutJob row ∷ [])
-fired-ids_job t pools shots row = opening-ids_job t.last (t.last.log + length shots) (placed_from t.last.log pools shots) row
+pub fired-ids_behind : (t : Tables) (pools : Pools) (shots : List Shot) (change : Change) → gives_ids change ≡ false → HasIdsFirst (opening_changes t.last (t.last.log + length shots) (map put_of (placed_from t.last.log pools shots)) ++ change ∷ [])
+fired-ids_behind t pools shots change none = opening-ids_behind t.last (t.last.log + length shots) (placed_from t.last.log pools shots) change none
 
 -- the queues of an admin with these logs behind their own
 abbrev with_placed : Queues → List Placed → Queues
@@ -144,60 +142,33 @@ entered-placed queues last (shot ∷ shots) =
     ∙ ap (λ ps. with_placed more (placed_from (last + 1) ps shots)) seen
     ∙ placed-one_more queues (last + 1) pool shot (placed_from (last + 1) (one_more pool (pools_in queues)) shots)
 
--- nothing was sent yet
-sendings-none : (h : History) (a : ℕ) → sendings_of h a ≡ []
-sendings-none (Begin o) a = refl
-sendings-none (After h (NodeStart admin) r) a = sendings-none h a
-sendings-none (After h (NodeStop admin) r) a = none-if (eqb a admin) (sendings_of h a) (sendings-none h a)
-  where
-    none-if : (b : Bool) (xs : List Sending) → xs ≡ [] → cond b [] xs ≡ []
-    none-if true xs is = refl
-    none-if false xs is = is
-sendings-none (After h (NodeAsk admin) r) a = sendings-none h a
-sendings-none (After h (AddGroup app kind addresses) r) a = sendings-none h a
-sendings-none (After h (SetGroup group kind addresses) r) a = sendings-none h a
-sendings-none (After h (AddJob spec) r) a = sendings-none h a
-sendings-none (After h (UpdateJob at job spec) r) a = sendings-none h a
-sendings-none (After h (StartJob at job) r) a = sendings-none h a
-sendings-none (After h (StopJob job) r) a = sendings-none h a
-sendings-none (After h (RemoveJob job) r) a = sendings-none h a
-sendings-none (After h (TriggerJob admin at job param) r) a = sendings-none h a
-sendings-none (After h (ScanBegin admin at) r) a = sendings-none h a
-sendings-none (After h (ScanStep admin) r) a = sendings-none h a
-sendings-none (After h (Turn admin at) r) a = sendings-none h a
-sendings-none (After h (ReadLog log) r) a = sendings-none h a
-sendings-none (After h Reopen r) a = refl
-
 -- the pools of an admin, as they are kept and as the history has them
-queues-seen : (h : History) (admin : ℕ) → pools_in (queues_of h admin) ≡ pools_of h admin
-queues-seen h admin = ap (λ sendings. pools_by (queue_of h admin) sendings) (sym (sendings-none h admin))
-
 pub pools-seen : (kept : Kept) (h : History) (admin : ℕ) → admin < ADMINS → Stands kept h → pools_in (pools_at kept admin) ≡ pools_of h admin
-pools-seen kept h admin below s = ap pools_in (pools-stand kept h admin below s) ∙ queues-seen h admin
+pools-seen kept h admin below s = ap pools_in (pools-stand kept h admin below s) ∙ pools-kept h admin
 
 -- the queues of an admin after a firing, by whether it is that of this admin
-abbrev queues_by : Bool → (PoolKind → List ℕ) → List Placed → Queues
-queues_by b queue placed = record {
+abbrev queues_by : Bool → (PoolKind → List ℕ) → SlowCounts → List Placed → Queues
+queues_by b queue counts placed = record {
   fast = cond b (queue FastPool ++ added_to FastPool placed) (queue FastPool);
   slow = cond b (queue SlowPool ++ added_to SlowPool placed) (queue SlowPool);
-  counts = no_counts;
+  counts = counts;
 }
 
 abbrev pub queues_opened : History → ℕ → List Shot → ℕ → Queues
-queues_opened h admin shots a = queues_by (eqb a admin) (queue_of h a) (placed_by (last_log h) (queue_of h a) (sendings_of h a) shots)
+queues_opened h admin shots a = queues_by (eqb a admin) (queue_of h a) (counts_of h a) (placed_by (last_log h) (queue_of h a) (sendings_of h a) shots)
 
 -- the pools of an admin after its firing
 pools-fired : (h : History) (admin : ℕ) (shots : List Shot) → entered (queues_of h admin) (map entering_of (placed_at h admin shots)) ≡ queues_opened h admin shots admin
 pools-fired h admin shots =
-    ap (λ ps. entered (queues_of h admin) (map entering_of (placed_from (last_log h) ps shots))) (sym (queues-seen h admin))
+    ap (λ ps. entered (queues_of h admin) (map entering_of (placed_from (last_log h) ps shots))) (sym (pools-kept h admin))
     ∙ entered-placed (queues_of h admin) (last_log h) shots
-    ∙ ap (λ ps. with_placed (queues_of h admin) (placed_from (last_log h) ps shots)) (queues-seen h admin)
-    ∙ ap (λ b. queues_by b (queue_of h admin) (placed_at h admin shots)) (sym (same-admin admin))
+    ∙ ap (λ ps. with_placed (queues_of h admin) (placed_from (last_log h) ps shots)) (pools-kept h admin)
+    ∙ ap (λ b. queues_by b (queue_of h admin) (counts_of h admin) (placed_at h admin shots)) (sym (same-admin admin))
 
 -- and those of another
 pub pools-left : (h : History) (admin a : ℕ) (shots : List Shot) → (a ≡ admin → ⊥) → queues_of h a ≡ queues_opened h admin shots a
 pools-left h admin a shots other =
-    ap (λ b. queues_by b (queue_of h a) (placed_by (last_log h) (queue_of h a) (sendings_of h a) shots)) (sym (other-admin a admin other))
+    ap (λ b. queues_by b (queue_of h a) (counts_of h a) (placed_by (last_log h) (queue_of h a) (sendings_of h a) shots)) (sym (other-admin a admin other))
 
 -- what the changes of a firing are, by what is kept
 abbrev pub fired_changes : Kept → Pools → List Shot → List Change

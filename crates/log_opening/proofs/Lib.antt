@@ -1,3 +1,4 @@
 pub mod OpeningLemmas
 pub mod FiringLemmas
 pub mod FireLemmas
+pub mod SeriesLemmas

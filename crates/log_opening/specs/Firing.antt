@@ -1,5 +1,5 @@
 -- One firing of a job.
-use Rattle.std.specs.Prelude.{◌≡◌, ◌+◌, ◌<◌, ◌≤◌, List, map, length, Option, Some, None}
+use Rattle.std.specs.Prelude.{◌≡◌, ◌+◌, ◌<◌, ◌≤◌, List, [], map, length, Option, Some, None}
 use Rattle.job_values.specs.declared.limits.TheConstants.{LAST_LOG_ID}
 use Rattle.job_records.specs.declared.last_ids.LastIds.{LastIds}
 use Rattle.cluster_history.specs.Firings.{Shot}
@@ -18,3 +18,7 @@ pub record Fires (last : LastIds) (pools : Pools) (shots : List Shot) (fired : F
 abbrev pub FiresAs : LastIds → Pools → List Shot → Option Fired → Type 0
 FiresAs last pools shots None = LAST_LOG_ID < last.log + length shots
 FiresAs last pools shots (Some fired) = Fires last pools shots fired
+
+-- no log is opened
+abbrev pub FiresNothing : LastIds → Fired → Type 0
+FiresNothing last fired = (pools : Pools) → Fires last pools [] fired

@@ -8,8 +8,21 @@ use Rattle.job_records.specs.declared.last_ids.LastIds.{LastIds}
 use Rattle.cluster_history.specs.Firings.{Shot}
 use Rattle.trigger_pool.specs.Reports.{late_count}
 use Rattle.cluster_history.specs.Openings.{Pools, Placed, placed_from, opened_of, log_of, pools_after}
+use Rattle.log_opening.specs.declared.new_log.NewLog.{NewLog}
 use Rattle.log_opening.specs.declared.opening.Openings.{Openings}
 use Rattle.cluster_plan.specs.declared.prepared.Entering.{Entering}
+
+-- a log that is to be opened, as a history has it
+abbrev pub shot_in : NewLog → Shot
+shot_in new = record {
+  row = new.row.now;
+  param = new.param.now;
+  kind = new.kind;
+  time = new.time;
+  index = new.index;
+  total = new.total;
+  retries = new.retries;
+}
 
 -- the pools once these logs were opened
 abbrev pub pools_then : Openings → Pools

@@ -3,11 +3,12 @@ ghost use Rattle.std.specs.Prelude.{◌≡◌, ◌+◌, ◌-◌, ◌<◌, ◌≤
 ghost use Rattle.job_values.specs.declared.limits.TheConstants.{LAST_LOG_ID};
 ghost use Rattle.job_records.specs.Rows.{row_with};
 ghost use Rattle.cluster_history.specs.Groups.{addresses_in};
-ghost use Rattle.cluster_history.specs.Firings.{shards, shot_for, shots_by};
+ghost use Rattle.cluster_history.specs.Firings.{shards, shots_by};
 ghost use Rattle.cluster_plan.specs.Kept.{pools_in};
 ghost use Rattle.cluster_history.specs.Openings.{pool_for, pool_of, one_more, log_of};
-ghost use Rattle.log_opening.specs.Openings.{pools_then, OpensBehind, told_of, put_of, entering_of, opening_changes};
+ghost use Rattle.log_opening.specs.Openings.{shot_in, pools_then, OpensBehind, told_of, put_of, entering_of, opening_changes};
 
+use super::new_log::NewLog;
 use super::rows::push_row;
 use cluster_plan::Entering;
 use job_events::Opened;
@@ -87,35 +88,20 @@ pub fn shard_count(records: &Records, spec: &JobSpec) -> u32
     }
 }
 
-/// One of the shards of a firing.
-#[derive(Clone, Copy)]
-pub struct Shard {
-    pub index: ShardNo,
-    pub total: ShardNo,
-}
-
-/// A new log of a shard.
-fn new_log(
-    alloc: Global,
-    row: &Job,
-    param: &ParamText,
-    kind: TriggerKind,
-    time: Moment,
-    shard: &Shard,
-    opened: &Opened,
-) -> Result<Log, NoMemory>
-    ensures { IfOk result (λ log. log ≡ log_of (record { shot = shot_for row.now param.now kind time shard.now.total shard.now.index; log = opened.now.log; pool = opened.now.pool })) }
+/// The row of a log that is opened.
+fn log_row(alloc: Global, new: &NewLog<'_>, opened: &Opened) -> Result<Log, NoMemory>
+    ensures { IfOk result (λ log. log ≡ log_of (record { shot = shot_in new.now; log = opened.now.log; pool = opened.now.pool })) }
 {
-    let spec = &row.spec;
+    let spec = &new.row.spec;
     let handler = spec.handler.copy(alloc)?;
-    let param = param.copy(alloc)?;
+    let param = new.param.copy(alloc)?;
     let trigger_code = match opened.pool {
         PoolAnswer::Full => FAILURE,
         _ => 0,
     };
     Ok(Log {
         id: opened.log,
-        job: row.id,
+        job: new.row.id,
         group: spec.group,
         address: None,
         handler,
@@ -123,11 +109,11 @@ fn new_log(
         block: spec.block,
         route: spec.route,
         timeout: spec.timeout,
-        index: shard.index,
-        total: shard.total,
-        retries: spec.retries,
-        kind,
-        time,
+        index: new.index,
+        total: new.total,
+        retries: new.retries,
+        kind: new.kind,
+        time: new.time,
         trigger_code,
         result_time: None,
         result_code: 0,
@@ -136,32 +122,23 @@ fn new_log(
     })
 }
 
-/// Opens the log of a shard.
-fn open_one(
+/// Opens a log.
+pub fn open_log(
     alloc: Global,
-    row: &Job,
-    param: &ParamText,
-    kind: TriggerKind,
-    time: Moment,
-    shard: &Shard,
+    new: &NewLog<'_>,
     openings: &mut Openings<'_>,
 ) -> Result<Opened, NoMemory>
     requires { openings.old.last < LAST_LOG_ID }
-    ensures opened { IfOk result (λ opened. opened ≡ record { log = openings.old.last + 1; pool = pool_of (pools_then openings.old) (shot_for row.now param.now kind time shard.now.total shard.now.index) }) }
-    ensures opens { OnOk result (OpensBehind (shot_for row.now param.now kind time shard.now.total shard.now.index ∷ []) openings.old openings.new) }
+    ensures opened { IfOk result (λ opened. opened ≡ record { log = openings.old.last + 1; pool = pool_of (pools_then openings.old) (shot_in new.now) }) }
+    ensures opens { OnOk result (OpensBehind (shot_in new.now ∷ []) openings.old openings.new) }
 {
     let id = LogId::new(openings.last + 1).unwrap();
-    let pool = take_place(openings, row.id);
+    let job = new.row.id;
+    let pool = take_place(openings, job);
     let opened = Opened { log: id, pool };
-    let log = new_log(alloc, row, param, kind, time, shard, &opened)?;
+    let log = log_row(alloc, new, &opened)?;
     push_row(&mut openings.puts, Change::PutLog(log))?;
-    push_row(
-        &mut openings.entering,
-        Entering {
-            log: id,
-            job: row.id,
-        },
-    )?;
+    push_row(&mut openings.entering, Entering { log: id, job })?;
     openings.last += 1;
     Ok(opened)
 }
@@ -184,11 +161,16 @@ pub fn open_logs(
     let total_no = ShardNo::new(total).unwrap();
     let mut opened = Vec::new(alloc);
     for index in 0..total {
-        let shard = Shard {
+        let new = NewLog {
+            row,
+            param,
+            kind,
+            time,
             index: ShardNo::new(index).unwrap(),
             total: total_no,
+            retries: row.spec.retries,
         };
-        let one = open_one(alloc, row, param, kind, time, &shard, openings)?;
+        let one = open_log(alloc, &new, openings)?;
         push_row(&mut opened, one)?;
     }
     Ok(Seq::of(opened))

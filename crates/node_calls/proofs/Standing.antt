@@ -9,19 +9,8 @@ use Rattle.http_reading.specs.Requests.{Reads, TakesRequest}
 use Rattle.node_calls.specs.declared.serving.End.{End}
 use Rattle.node_calls.specs.declared.serving.Served.{Served}
 use Rattle.node_calls.specs.Exchanges.{Exchange, requests_of, entries_of, Each, ReadsEach, TakesEach, Scene, Goes, Finishes, Serves}
+use Rattle.node_calls.specs.Standing.{StandsAt, StandsIn}
 use Rattle.node_calls.proofs.Rounds.{reads_push}
-
--- a request stands in these bytes, behind whole requests
-pub record StandsAt (bytes : List ℕ) (r : Request) : Type 0 where
-  pub before : List Request
-  pub middle : List ℕ
-  pub rest : List ℕ
-  pub reads : ReadsEach bytes before middle
-  pub is : Reads middle r rest
-
-abbrev pub StandsIn : Option (List ℕ) → Request → Type 0
-StandsIn None r = Unit {0}
-StandsIn (Some bytes) r = StandsAt bytes r
 
 pub each_all : {A : Type 0} (Q : A → Type 0) (es : List A) → Each Q es → All Q es
 each_all Q [] each k d lt = absurd (omega arith)

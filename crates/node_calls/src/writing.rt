@@ -59,6 +59,7 @@ pub fn write_answer<L: Link>(link: &mut L, text: &mut Vec<u8>, body: &[u8]) -> R
 /// Writes what is written for bytes that are no request, if anything is, and tells the last fault.
 pub fn write_refusal<L: Link>(alloc: Global, link: &mut L, fault: HttpFault) -> HttpFault
     ensures gave { RefusalGave (L.taken link.old) (L.taken link.new) (L.faults link.old) (L.faults link.new) fault result }
+    ensures end { L.met link.new ≡ L.met link.old }
     ensures later { L.faults link.old ≤ L.faults link.new }
 {
     let status = match fault {

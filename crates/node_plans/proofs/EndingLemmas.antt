@@ -1,11 +1,9 @@
 -- Logs that are ended: the changes are allowed, and end the rows with these ids.
 use Rattle.std.proofs.Common.{◌≡◌, ℕ, ◌+◌, ◌<◌, ◌≤◌, length-append, List, [], ◌∷◌, ◌++◌, Bool, true, false, ◌||◌, cond, eqb, Option, Some, None, length, map, take, get_or, refl, sym, ap, ◌∙◌, subst, append-nil, arith}
 use Rattle.std.specs.Prelude.{ℤ, pos, negsuc}
-use Rattle.std.specs.List.{list_any, concat}
+use Rattle.std.specs.List.{list_any}
 use Rattle.std.proofs.lemmas.Bool.Decides.{nat_tests}
-use Rattle.std.proofs.lemmas.List.{append_assoc, map-id, take_more, map_more}
-use Rattle.std.proofs.lemmas.List.Folds.{concat-append}
-use Rattle.std.proofs.lemmas.List.Sums.{sum_by_push}
+use Rattle.std.proofs.lemmas.List.{append_assoc, map-id, take_more}
 use Rattle.job_records.specs.declared.change.Change.{Change}
 use Rattle.job_records.specs.declared.change.Change.TheVariants.{PutLog}
 use Rattle.job_records.specs.declared.log.Log.{Log}
@@ -15,19 +13,10 @@ use Rattle.job_records.specs.Rules.{HasAddress, KeepsRules}
 use Rattle.job_records.specs.Tables.{Tables}
 use Rattle.job_records.proofs.Keeping.{keeps_log}
 use Rattle.job_records.proofs.RowLemmas.{rises-from_rising}
-use Rattle.trigger_pool.specs.Pool.{Queues}
 use Rattle.cluster_history.specs.Settling.{ended_log, log_with}
-use Rattle.cluster_plan.specs.declared.node.Node.{Node}
-use Rattle.cluster_plan.specs.Nodes.{NodeKept, node_in, node_at}
 use Rattle.cluster_plan.specs.Plans.{gives_ids}
-use Rattle.node_plans.specs.Endings.{ending_of, endings, ended_in, ending_in, queued_of}
-use Rattle.cluster_plan.specs.Kept.{logs_in, IsWithinLimits}
+use Rattle.node_plans.specs.Endings.{ending_of, endings, ended_in}
 use Rattle.cluster_plan.proofs.PutLemmas.{found-id, found-within, put-changed}
-use Rattle.cluster_plan.proofs.ReadLemmas.{node-read}
-
--- the logs of both pools of a node
-abbrev pub queued_logs : Node → List ℕ
-queued_logs one = logs_in one.pools.kept
 
 -- one id more
 pub endings-append : (logs : List Log) (xs ys : List ℕ) → endings logs (xs ++ ys) ≡ endings logs xs ++ endings logs ys
@@ -50,33 +39,6 @@ ending-gives_none (Some log) rest none = none
 pub endings-give_none : (logs : List Log) (ids : List ℕ) → list_any gives_ids (endings logs ids) ≡ false
 endings-give_none logs [] = refl
 endings-give_none logs (id ∷ ids) = ending-gives_none (log_with id logs) (endings logs ids) (endings-give_none logs ids)
-
--- so many logs both pools have at most
-pub logs-few : (queues : Queues) → IsWithinLimits queues → length (logs_in queues) ≤ 3000
-logs-few queues few =
-    let fast : length queues.fast ≤ 1000 = few.fast in
-    let slow : length queues.slow ≤ 2000 = few.slow in
-    omega (arith, length-append queues.fast queues.slow)
-
--- and so they have at an admin
-pub node-few : (nodes all : List Node) (i : ℕ) (one : Node) → nodes ≡ all → i < length nodes → one ≡ get_or nodes i one → ((admin : ℕ) → IsWithinLimits (node_at (map node_in all) admin).pools) → IsWithinLimits one.pools.kept
-node-few nodes all i one same within is few =
-    let P : NodeKept → Type 0 = λ n. IsWithinLimits n.pools in
-    subst P (sym (node-read nodes i i one refl within is ∙ ap (λ ns. node_at (map node_in ns) i) same)) (few i)
-
--- the count of one admin more
-pub queued-more : (nodes : List Node) (i : ℕ) (one : Node) → i < length nodes → one ≡ get_or nodes i one → queued_of (map node_in (take (i + 1) nodes)) ≡ queued_of (map node_in (take i nodes)) + ending_in (node_in one)
-queued-more nodes i one within is =
-    ap queued_of (map_more node_in nodes i one within ∙ ap (λ (n : Node). map node_in (take i nodes) ++ node_in n ∷ []) (sym is))
-    ∙ sum_by_push ending_in (map node_in (take i nodes)) (node_in one)
-
--- the pools of one admin more
-pub pools-more : (logs : List Log) (nodes : List Node) (i : ℕ) (one : Node) → i < length nodes → one ≡ get_or nodes i one
-    → endings logs (concat (map queued_logs (take (i + 1) nodes))) ≡ endings logs (concat (map queued_logs (take i nodes))) ++ endings logs (queued_logs one)
-pools-more logs nodes i one within is =
-    ap (λ qs. endings logs (concat qs)) (map_more queued_logs nodes i one within ∙ ap (λ (n : Node). map queued_logs (take i nodes) ++ queued_logs n ∷ []) (sym is))
-    ∙ ap (endings logs) (concat-append (map queued_logs (take i nodes)) (queued_logs one ∷ []) ∙ ap (λ q. concat (map queued_logs (take i nodes)) ++ q) (append-nil (queued_logs one)))
-    ∙ endings-append logs (concat (map queued_logs (take i nodes))) (queued_logs one)
 
 -- a log that is ended already is ended alike
 ending-changed : (b c : Bool) (log : Log) (rest before : Option Log) → ending_of rest ≡ ending_of before → ending_of (cond c (Some (cond b (ended_log log) log)) rest) ≡ ending_of (cond c (Some log) before)

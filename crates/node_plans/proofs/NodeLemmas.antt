@@ -10,7 +10,7 @@ use Rattle.cluster_plan.specs.Nodes.{NodeKept, started}
 use Rattle.cluster_plan.specs.Kept.{Kept}
 use Rattle.cluster_plan.specs.Commits.{with_node}
 use Rattle.cluster_plan.specs.Plans.{IsPlanned}
-use Rattle.cluster_plan.specs.Stands.{Stands, Keeps, ring_of, queues_of}
+use Rattle.cluster_plan.specs.Stands.{Stands, Keeps, ring_of, queues_of, routes_of}
 use Rattle.cluster_plan.proofs.AdminLemmas.{same-admin, other-admin}
 use Rattle.cluster_plan.proofs.StandsLemmas.{nodes-changed}
 use Rattle.cluster_plan.proofs.PlanLemmas.{planned, planned-answered, answered-running}
@@ -18,7 +18,7 @@ use Rattle.job_values.specs.declared.limits.TheConstants.{ADMINS}
 
 -- what is kept of an admin, by whether it runs
 abbrev run_by : History → ℕ → Bool → NodeKept
-run_by h admin running = record { running = running; ring = ring_of h admin; pools = queues_of h admin }
+run_by h admin running = record { running = running; ring = ring_of h admin; pools = queues_of h admin; routes = routes_of h admin }
 
 -- an admin runs from its start on
 pub stands-started : (kept : Kept) (h : History) (admin : ℕ) → admin < ADMINS → Stands kept h → Keeps (with_node admin started kept) (After h (NodeStart admin) Done)
@@ -26,6 +26,7 @@ stands-started kept h admin below s = record {
   settings = s.keeps.settings;
   tables = s.keeps.tables;
   scan = s.keeps.scan;
+  taken = s.keeps.taken;
   nodes = nodes-changed kept h (After h (NodeStart admin) Done) admin started below s
       (ap (λ b. run_by h admin (cond b true (runs h admin))) (sym (same-admin admin)))
       (λ a other. ap (λ b. run_by h a (cond b true (runs h a))) (sym (other-admin a admin other)));
@@ -44,4 +45,4 @@ pub planned-ask : (kept : Kept) (admin : ℕ) → ((h : History) → Stands kept
     → IsPlanned kept (NodeAsk admin) (record { reply = Done; changes = []; node = node.Nothing })
 planned-ask kept admin running =
     planned-answered kept (NodeAsk admin) Done tt refl (λ h s. answered-running (runs (accepted h) admin) admin Done (running h s))
-    (λ h s. record { settings = s.keeps.settings; tables = s.keeps.tables; scan = s.keeps.scan; nodes = s.keeps.nodes })
+    (λ h s. record { settings = s.keeps.settings; tables = s.keeps.tables; scan = s.keeps.scan; taken = s.keeps.taken; nodes = s.keeps.nodes })

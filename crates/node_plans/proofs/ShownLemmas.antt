@@ -28,4 +28,4 @@ planned-no_log kept id is = planned-refused kept (ReadLog id) NoLog (λ h s. ap 
 pub planned-shown : (kept : Kept) (id : ℕ) (log : Log) → row_with (λ log. log.id) id kept.tables.logs ≡ Some log → IsPlanned kept (ReadLog id) (record { reply = Shown (shown_of log); changes = []; node = node.Nothing })
 planned-shown kept id log is =
     planned-answered kept (ReadLog id) (Shown (shown_of log)) tt refl (λ h s. ap log_reply (found-log kept (accepted h) id (Some log) is s))
-    (λ h s. record { settings = s.keeps.settings; tables = s.keeps.tables; scan = s.keeps.scan; nodes = s.keeps.nodes })
+    (λ h s. record { settings = s.keeps.settings; tables = s.keeps.tables; scan = s.keeps.scan; taken = s.keeps.taken; nodes = s.keeps.nodes })

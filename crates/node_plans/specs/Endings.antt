@@ -1,14 +1,27 @@
 -- What the stop of an admin ends, and what an opening ends.
-use Rattle.std.specs.Prelude.{ℕ, ◌==◌, List, [], ◌∷◌, ◌++◌, map, filter, sum_by, length, Option, Some, None, if◌then◌else◌}
-use Rattle.std.specs.List.{list_any}
+use Rattle.std.specs.Prelude.{ℕ, ◌==◌, List, [], ◌∷◌, ◌++◌, map, filter, sum_by, Option, Some, None, if◌then◌else◌}
+use Rattle.std.specs.List.{list_any, concat}
 use Rattle.job_records.specs.declared.change.Change.{Change}
 use Rattle.job_records.specs.declared.change.Change.TheVariants.{PutLog}
 use Rattle.job_records.specs.declared.log.Log.{Log}
 use Rattle.time_ring.specs.Ring.{ticket_count}
 use Rattle.job_records.specs.Tables.{Tables}
 use Rattle.cluster_history.specs.Settling.{is_unsent, ended_log, ended_where, log_with}
+use Rattle.cluster_history.specs.declared.taken.TakenLog.{TakenLog}
 use Rattle.cluster_plan.specs.Nodes.{NodeKept}
-use Rattle.cluster_plan.specs.Kept.{logs_in}
+use Rattle.cluster_plan.specs.Kept.{Kept, logs_in, pools_at}
+
+-- the ids of the logs that an admin took and that were not sent
+abbrev pub taken_in : List TakenLog → ℕ → List ℕ
+taken_in taken admin = map (λ t. t.log) (filter (λ t. t.admin == admin) taken)
+
+-- the ids of the logs that an admin has: in its pools, and taken
+abbrev pub held_in : Kept → ℕ → List ℕ
+held_in kept admin = logs_in (pools_at kept admin) ++ taken_in kept.taken admin
+
+-- the ids of the logs that any admin has: in all pools, and taken
+abbrev pub all_held : Kept → List ℕ
+all_held kept = concat (map (λ one. logs_in one.pools) kept.nodes) ++ map (λ t. t.log) kept.taken
 
 -- the change that ends a log, if it is there
 abbrev pub ending_of : Option Log → List Change
@@ -31,14 +44,6 @@ lost_in one = if one.running then ticket_count one.ring else 0
 -- the tickets of all admins that run
 abbrev pub lost_of : List NodeKept → ℕ
 lost_of nodes = sum_by lost_in nodes
-
--- the logs in the pools of an admin, if it runs
-abbrev pub ending_in : NodeKept → ℕ
-ending_in one = if one.running then length (logs_in one.pools) else 0
-
--- the logs in the pools of all admins that run
-abbrev pub queued_of : List NodeKept → ℕ
-queued_of nodes = sum_by ending_in nodes
 
 -- the changes that end each log without a trigger code, in order of the ids
 abbrev pub unsent_endings : List Log → List Change

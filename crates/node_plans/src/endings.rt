@@ -1,22 +1,17 @@
 //! What ends with the stop of admins, and with an opening: the logs that were not sent, and the tickets.
-ghost use Rattle.std.specs.Prelude.{◌≡◌, ℕ, ◌≤◌, [], ◌∷◌, ◌++◌, length, map, min, IfOk, OnOk};
-ghost use Rattle.std.specs.List.{concat};
-ghost use Rattle.job_values.specs.declared.limits.TheConstants.{ADMINS};
+ghost use Rattle.std.specs.Prelude.{◌≡◌, [], ◌∷◌, ◌++◌, map, min, IfOk, OnOk};
 ghost use Rattle.job_records.specs.declared.change.Change.TheVariants.{PutLog};
 ghost use Rattle.job_records.specs.Changes.{applied_all, AreAllowed};
 ghost use Rattle.job_records.specs.Rules.{KeepsRules};
 ghost use Rattle.cluster_history.specs.Settling.{is_unsent, ended_log, log_with};
-ghost use Rattle.cluster_plan.specs.Nodes.{node_in, node_at};
-ghost use Rattle.cluster_plan.specs.Kept.{logs_in, IsWithinLimits};
-ghost use Rattle.node_plans.specs.Endings.{ending_of, endings, unsent_endings, unsent_ended, lost_of, queued_of};
+ghost use Rattle.cluster_plan.specs.Nodes.{node_in};
+ghost use Rattle.node_plans.specs.Endings.{ending_of, endings, unsent_endings, unsent_ended, lost_of};
 
 use cluster_plan::Node;
 use job_records::{Change, Log, Records};
 use job_values::limits::FAILURE;
-use job_values::{LogId, NoMemory, PoolKind, Seq};
+use job_values::{LogId, NoMemory, Seq};
 use std::alloc::Global;
-use std::collections::VecDeque;
-use trigger_pool::Pools;
 
 /// A log with the trigger code of a stop.
 fn ended(mut log: Log) -> Log
@@ -51,48 +46,15 @@ fn end_log(
     }
 }
 
-/// Ends the logs of a queue.
-pub fn end_logs(
-    alloc: Global,
-    records: &Records,
-    queue: &VecDeque<LogId>,
-    changes: &mut Vec<Change>,
-) -> Result<(), NoMemory>
-    ensures { OnOk result (changes.new.items ≡ changes.old.items ++ endings records.now.kept.logs queue.now.items) }
+/// The changes that end the logs with these ids, as far as their rows are there.
+pub fn end_logs(alloc: Global, records: &Records, ids: &Vec<LogId>) -> Result<Vec<Change>, NoMemory>
+    ensures { IfOk result (λ changes. changes.items ≡ endings records.now.kept.logs ids.now.items) }
 {
-    for at in 0..queue.len() {
-        end_log(alloc, records, queue[at], changes)?;
+    let mut changes = Vec::new(alloc);
+    for id in ids {
+        end_log(alloc, records, *id, &mut changes)?;
     }
-    Ok(())
-}
-
-/// Ends the logs of both pools of an admin.
-pub fn end_pools(
-    alloc: Global,
-    records: &Records,
-    pools: &Pools,
-    changes: &mut Vec<Change>,
-) -> Result<(), NoMemory>
-    ensures { OnOk result (changes.new.items ≡ changes.old.items ++ endings records.now.kept.logs (logs_in pools.now.kept)) }
-{
-    end_logs(alloc, records, pools.waiting(PoolKind::Fast), changes)?;
-    end_logs(alloc, records, pools.waiting(PoolKind::Slow), changes)?;
-    Ok(())
-}
-
-/// Ends the logs of all pools.
-pub fn end_all(
-    alloc: Global,
-    records: &Records,
-    nodes: &Vec<Node>,
-    changes: &mut Vec<Change>,
-) -> Result<(), NoMemory>
-    ensures { OnOk result (changes.new.items ≡ changes.old.items ++ endings records.now.kept.logs (concat (map (λ one. logs_in one.pools.kept) nodes.now.items))) }
-{
-    for node in nodes {
-        end_pools(alloc, records, &node.pools, changes)?;
-    }
-    Ok(())
+    Ok(changes)
 }
 
 /// Whether a log has no trigger code.
@@ -126,16 +88,6 @@ pub fn end_unsent(alloc: Global, records: &Records) -> Result<Seq<Change>, NoMem
     Ok(Seq::of(unsent_ends(alloc, records)?))
 }
 
-/// How many logs the pools of an admin have.
-pub fn count_logs(pools: &Pools) -> u64
-    requires { IsWithinLimits pools.now.kept }
-    ensures { result ≡ length (logs_in pools.now.kept) }
-{
-    let fast = pools.length(PoolKind::Fast) as u64;
-    let slow = pools.length(PoolKind::Slow) as u64;
-    fast + slow
-}
-
 /// How many tickets the rings of the running admins have.
 pub fn lost_tickets(nodes: &Vec<Node>) -> u64
     ensures { result ≡ min (lost_of (map node_in nodes.now.items)) (u64.MAX) }
@@ -147,19 +99,4 @@ pub fn lost_tickets(nodes: &Vec<Node>) -> u64
         }
     }
     lost
-}
-
-/// How many logs the pools of the running admins have.
-pub fn queued_logs(nodes: &Vec<Node>) -> u64
-    requires nodes { length nodes.now.items ≡ ADMINS }
-    requires few { (admin : ℕ) → IsWithinLimits (node_at (map node_in nodes.now.items) admin).pools }
-    ensures { result ≡ queued_of (map node_in nodes.now.items) }
-{
-    let mut queued: u64 = 0;
-    for node in nodes {
-        if node.running {
-            queued += count_logs(&node.pools);
-        }
-    }
-    queued
 }

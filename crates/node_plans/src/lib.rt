@@ -3,6 +3,7 @@
 #![tactic(auto)]
 
 mod endings;
+mod held;
 pub mod nodes;
 pub mod shown;
 

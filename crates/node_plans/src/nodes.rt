@@ -4,7 +4,8 @@ ghost use Rattle.job_events.specs.declared.cluster.ClusterEvent.TheVariants.{Nod
 ghost use Rattle.cluster_plan.specs.Kept.{IsSound, kept_in};
 ghost use Rattle.cluster_plan.specs.Plans.{IsPlanned};
 
-use super::endings::{count_logs, end_all, end_pools, lost_tickets, queued_logs};
+use super::endings::{end_logs, lost_tickets};
+use super::held::{count, held_by, held_by_all};
 use cluster_plan::{NodeChange, Prepared, Seen};
 use job_events::{ClusterRefusal, ClusterReply};
 use job_values::{AdminNo, NoMemory, Seq};
@@ -24,7 +25,8 @@ pub fn plan_start(seen: &Seen<'_>, admin: AdminNo) -> Prepared
     )
 }
 
-/// An admin stops: its logs that were not sent end, and its ring and its scan are lost.
+/// An admin stops: its logs that were not sent end, those in its pools and those that it took, and its
+/// ring and its scan are lost. It passes once over all logs that were taken and not sent.
 pub fn plan_stop(seen: &Seen<'_>, admin: AdminNo) -> Result<Prepared, NoMemory>
     requires { IsSound (kept_in seen.now) }
     ensures { IfOk result (IsPlanned (kept_in seen.now) (NodeStop admin)) }
@@ -35,9 +37,9 @@ pub fn plan_stop(seen: &Seen<'_>, admin: AdminNo) -> Result<Prepared, NoMemory>
     }
     let node = seen.node_at(admin);
     let lost = node.ring.count();
-    let ended = count_logs(&node.pools);
-    let mut changes = Vec::new(seen.alloc);
-    end_pools(seen.alloc, seen.records, &node.pools, &mut changes)?;
+    let ids = held_by(seen.alloc, &node.pools, seen.taken, admin)?;
+    let ended = count(&ids);
+    let changes = end_logs(seen.alloc, seen.records, &ids)?;
     Ok(Prepared::changing(
         ClusterReply::Stopped { lost, ended },
         Seq::of(changes),
@@ -62,9 +64,9 @@ pub fn plan_reopen(seen: &Seen<'_>) -> Result<Prepared, NoMemory>
     ensures { IfOk result (IsPlanned (kept_in seen.now) Reopen) }
 {
     let lost = lost_tickets(seen.nodes);
-    let ended = queued_logs(seen.nodes);
-    let mut changes = Vec::new(seen.alloc);
-    end_all(seen.alloc, seen.records, seen.nodes, &mut changes)?;
+    let ids = held_by_all(seen.alloc, seen.nodes, seen.taken)?;
+    let ended = count(&ids);
+    let changes = end_logs(seen.alloc, seen.records, &ids)?;
     Ok(Prepared::changing(
         ClusterReply::Reopened { lost, ended },
         Seq::of(changes),

@@ -4,4 +4,5 @@ pub mod Rows
 pub mod Walks
 pub mod Ends
 pub mod Ready
+pub mod Said
 pub mod Tables

@@ -50,7 +50,7 @@ needed_given options all (c ∷ cs) uses each needed =
 -- ---- the forms of what was said
 
 -- a use that a search finds
-use_found : (options : List CommandOption) (uses : List Use) (each : Each (IsUseOf options) uses) (id : Text) (u : Use)
+pub use_found : (options : List CommandOption) (uses : List Use) (each : Each (IsUseOf options) uses) (id : Text) (u : Use)
     → find (λ u. bytes_eq u.name id) uses ≡ Some u → IsUseOf options u × (bytes_eq u.name id ≡ true)
 use_found options [] each id u e = absurd (none-some u e)
 use_found options (x ∷ xs) each id u e = go (λ f. use_found options xs each.1 id u f) (bytes_eq x.name id) refl

@@ -1,5 +1,5 @@
 -- What a spool tells, and what its calls do.
-use Rattle.std.specs.Prelude.{◌≡◌, ℕ, ◌≤◌, Bool, true, List, Option, Some, None, Result, Ok, Err, is_err, if◌then◌else◌}
+use Rattle.std.specs.Prelude.{◌≡◌, ℕ, ◌≤◌, Bool, true, List, Option, Some, Result, Ok, Err, is_err, if◌then◌else◌}
 use Rattle.std.specs.Option.{option_map}
 use Rattle.outside.specs.Causes.{Rose, faults_after}
 use Rattle.outside.specs.declared.spool.SpoolError.{SpoolError}
@@ -51,6 +51,11 @@ pub record SpoolMemory : Type 0 where
 
 abbrev pub seen_memory : SpoolMemory → SpoolView
 seen_memory m = record { kept = Some m.bytes; failed = m.failed; faults = m.faults }
+
+-- a call is counted, and the list of those that are to fail stays
+pub record Counts (old new : SpoolMemory) : Type 0 where
+  pub calls : new.calls ≡ faults_after old.calls
+  pub failing : new.failing ≡ old.failing
 
 -- after a call it is counted, and a failure too
 abbrev pub after_call : {X E : Type 0} → SpoolMemory → Result X E → SpoolMemory

@@ -1,7 +1,7 @@
 //! What keeps the results that no admin took, as the bytes of a file, and a spool in memory.
 ghost use Rattle.std.specs.Prelude.{◌≡◌, [], false, Some, true, is_err, IfOk, OnOk, OnErr, IsTrue, IsErr};
 ghost use Rattle.outside.specs.Causes.{HasCause};
-ghost use Rattle.outside.specs.Spools.{Stays, Tells, HasSpoolCause, Saves, after_call};
+ghost use Rattle.outside.specs.Spools.{Stays, Tells, HasSpoolCause, Saves, Counts, after_call};
 ghost use Rattle.outside.specs.Streams.{is_to_fail};
 
 use super::failed::{Failed, one_more};
@@ -125,6 +125,8 @@ impl MemorySpool {
     fn keep(&mut self, bytes: &[u8]) -> Result<(), Failed>
         ensures kept { OnOk result (self.new.bytes ≡ bytes.now) }
         ensures left { OnErr result (self.new.bytes ≡ self.old.bytes) }
+        ensures calls { self.new.calls ≡ self.old.calls }
+        ensures failing { self.new.failing ≡ self.old.failing }
         ensures cause { HasCause self.old.faults self.new.faults result }
     {
         match Vec::from_slice(self.alloc, bytes) {
@@ -144,6 +146,7 @@ impl MemorySpool {
         ensures fails { IsTrue (is_to_fail self.old.calls self.old.failing) → IsErr result }
         ensures kept { OnOk result (self.new.bytes ≡ bytes.now) }
         ensures left { OnErr result (self.new.bytes ≡ self.old.bytes) }
+        ensures counts { Counts self.old self.new }
         ensures cause { HasCause self.old.faults self.new.faults result }
     {
         match self.called() {
@@ -160,6 +163,7 @@ impl Spool for MemorySpool {
 
     fn attach(&mut self, _file: &Text) -> Result<(), SpoolError>
         ensures fails { is_err result ≡ is_to_fail self.old.calls self.old.failing }
+        ensures counts { Counts self.old self.new }
         ensures stays { Stays (seen_memory self.old) (seen_memory self.new) }
         ensures cause { HasSpoolCause (seen_memory self.old) (seen_memory self.new) result }
     {
@@ -172,6 +176,7 @@ impl Spool for MemorySpool {
     fn load(&mut self) -> Result<Seq<u8>, SpoolError>
         ensures fails { IsTrue (is_to_fail self.old.calls self.old.failing) → IsErr result }
         ensures told { IfOk result (λ bytes. bytes ≡ self.old.bytes) }
+        ensures counts { Counts self.old self.new }
         ensures stays { Stays (seen_memory self.old) (seen_memory self.new) }
         ensures cause { HasSpoolCause (seen_memory self.old) (seen_memory self.new) result }
     {
@@ -186,6 +191,7 @@ impl Spool for MemorySpool {
 
     fn save(&mut self, bytes: &[u8]) -> Result<(), Failed>
         ensures fails { IsTrue (is_to_fail self.old.calls self.old.failing) → IsErr result }
+        ensures counts { Counts self.old self.new }
         ensures saves { Saves (seen_memory self.old) (seen_memory self.new) bytes.now }
         ensures failed { self.new.failed ≡ is_err result }
     {

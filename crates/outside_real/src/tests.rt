@@ -1,10 +1,11 @@
 //! The adapters and the dialers in memory, each on a short text.
-use crate::{FileSpool, StreamSink, StreamSource, TcpDialer, TcpLink};
+use crate::{FileSpool, StreamSink, StreamSource, TcpDialer, TcpLink, TcpPort};
 use job_values::Text;
 use outside::{
     BytesDialer, BytesLink, BytesSink, BytesSource, Dialer, Failed, Link, MemoryDialer, MemoryLink,
     Sink, Source, Spool, SpoolError, send,
 };
+use program_ports::{Accept, Listener};
 use std::collections::VecDeque;
 use std::net::TcpListener;
 use std::test::Fail;
@@ -71,7 +72,7 @@ fn dial_shows_what_its_link_told(rt: HostRuntime) -> Result<(), Fail> {
 fn tcp_link_carries_bytes(rt: HostRuntime) -> Result<(), Fail> {
     let listener = TcpListener::bind(&rt, "127.0.0.1:0")?;
     let port = listener.local_addr()?.port();
-    let mut dialer = TcpDialer::new(rt).another()?;
+    let mut dialer = TcpDialer::new(rt.alloc(), rt).another()?;
     let mut link = dialer.dial("127.0.0.1", port)?;
     let (stream, _) = listener.accept()?;
     let mut peer = TcpLink::of(stream)?;
@@ -110,5 +111,24 @@ fn a_missing_file_has_no_bytes(rt: HostRuntime) -> Result<(), Fail> {
     let bytes = spool.load().map_err(|_| "no bytes")?;
     assert!(rt; bytes.is_empty());
     assert_eq!(rt; spool.save(b"a"), Err(Failed));
+    Ok(())
+}
+
+/// A port gives the link that another dialed, is idle behind it, and fails before it has a number.
+#[test]
+fn tcp_port_gives_links(rt: HostRuntime) -> Result<(), Fail> {
+    let port = TcpListener::bind(&rt, "127.0.0.1:0")?.local_addr()?.port();
+    let mut listener = TcpPort::new(rt);
+    assert!(rt; listener.accept().is_err());
+    assert_eq!(rt; listener.attach(port), Ok(()));
+    assert!(rt; matches!(listener.accept()?, Accept::Idle));
+    let mut link = TcpDialer::new(rt.alloc(), rt).dial("127.0.0.1", port)?;
+    assert_eq!(rt; send(&mut link, b"a"), Ok(()));
+    let Accept::Came(mut peer) = listener.accept()? else {
+        return Err(Fail::from("no link"));
+    };
+    let mut into = [0u8; 4];
+    assert_eq!(rt; peer.read(&mut into), Ok(1));
+    assert!(rt; matches!(listener.accept()?, Accept::Idle));
     Ok(())
 }

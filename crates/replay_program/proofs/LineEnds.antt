@@ -1,9 +1,9 @@
 -- A line has its end at its end and nowhere else.
-use Rattle.std.proofs.Common.{◌≡◌, ℕ, zero, suc, ◌+◌, ◌/◌, ◌%◌, ◌≤◌, Bool, true, false, cond, nat_eq, nat_lt, List, [], ◌∷◌, ◌++◌, length, refl, arith, codes, Option, Some, None}
+use Rattle.std.proofs.Common.{◌≡◌, ℕ, zero, suc, ◌+◌, ◌/◌, ◌%◌, ◌≤◌, Bool, true, false, cond, nat_eq, nat_lt, List, [], ◌∷◌, ◌++◌, length, refl, arith, codes, Option, Some, None, ℤ, pos, negsuc}
 use Rattle.std.proofs.lemmas.Bool.{eqb-true, ltb-false}
 use Rattle.std.specs.List.{flat_map}
 use Rattle.std.specs.Fmt.{decimal, digits, digits_onto, digit_glyph}
-use Rattle.job_values.specs.Words.{schedule_kind_text, misfire_text, route_text, block_text, group_kind_text}
+use Rattle.job_values.specs.Words.{schedule_kind_text, misfire_text, route_text, block_text, group_kind_text, pool_kind_text}
 use Rattle.job_values.specs.declared.words.ScheduleKind.{ScheduleKind}
 use Rattle.job_values.specs.declared.words.ScheduleKind.TheVariants as kinds
 use Rattle.job_values.specs.declared.words.Misfire.{Misfire}
@@ -14,13 +14,16 @@ use Rattle.job_values.specs.declared.words.Block.{Block}
 use Rattle.job_values.specs.declared.words.Block.TheVariants as blocks
 use Rattle.job_values.specs.declared.words.GroupKind.{GroupKind}
 use Rattle.job_values.specs.declared.words.GroupKind.TheVariants as group_kinds
+use Rattle.job_values.specs.declared.words.PoolKind.{PoolKind}
+use Rattle.job_values.specs.declared.words.PoolKind.TheVariants as pool_kinds
+use Rattle.job_values.specs.declared.run.CallbackItem.{CallbackItem}
 use Rattle.job_values.specs.declared.spec.JobSpec.{JobSpec}
 use Rattle.job_events.specs.declared.cluster.ClusterEvent.{ClusterEvent}
-use Rattle.job_events.specs.declared.cluster.ClusterEvent.TheVariants.{NodeStart, NodeStop, NodeAsk, AddGroup, SetGroup, AddJob, UpdateJob, StartJob, StopJob, RemoveJob, TriggerJob, ScanBegin, ScanStep, Turn, ReadLog, Reopen}
+use Rattle.job_events.specs.declared.cluster.ClusterEvent.TheVariants.{NodeStart, NodeStop, NodeAsk, AddGroup, SetGroup, AddJob, UpdateJob, StartJob, StopJob, RemoveJob, TriggerJob, ScanBegin, ScanStep, Turn, Take, Sent, Callback, Registry, RegistryRemove, Sweep, Monitor, Lost, Clean, ReadLog, Reopen}
 use Rattle.line_grammar.specs.Texts.{escape, spelled, hex_digit}
 use Rattle.line_grammar.specs.Writing.{quoted, optional_text, spaced_text, spaced_number, counted_texts, counted_numbers}
 use Rattle.script_text.specs.Lines.{IsLine}
-use Rattle.script_text.specs.Spelling.{event_words, spec_text, trigger_text, work_text, zone_text}
+use Rattle.script_text.specs.Spelling.{event_words, spec_text, trigger_text, work_text, zone_text, spaced_code, item_text}
 use Rattle.script_text.specs.Laws.{EachEventHasOneLine}
 use Rattle.line_program.specs.Cuts.{is_open, IsLineEnd}
 use Rattle.line_program.proofs.CutLemmas.{open_append}
@@ -109,7 +112,15 @@ group_kind_open : (k : GroupKind) → is_open (32 ∷ group_kind_text k) ≡ tru
 group_kind_open group_kinds.Auto = refl
 group_kind_open group_kinds.Manual = refl
 
--- five, and six, pieces without an end of a line
+pool_kind_open : (k : PoolKind) → is_open (32 ∷ pool_kind_text k) ≡ true
+pool_kind_open pool_kinds.Fast = refl
+pool_kind_open pool_kinds.Slow = refl
+
+code_open : (code : ℤ) → is_open (spaced_code code) ≡ true
+code_open (pos n) = decimal_open n
+code_open (negsuc n) = decimal_open (suc n)
+
+-- five pieces without an end of a line
 five : (a b c d e : List ℕ) → is_open a ≡ true → is_open b ≡ true → is_open c ≡ true → is_open d ≡ true → is_open e ≡ true →
     is_open (a ++ b ++ c ++ d ++ e) ≡ true
 five a b c d e p q r s t = open_append (a ++ b ++ c ++ d) e (open_append (a ++ b ++ c) d (open_append (a ++ b) c (open_append a b p q) r) s) t
@@ -150,6 +161,13 @@ addresses_behind front kind addresses one =
     open_append (front ++ 32 ∷ group_kind_text kind) (32 ∷ counted_texts addresses)
     (open_append front (32 ∷ group_kind_text kind) one (group_kind_open kind)) (counted_open addresses)
 
+item_open : (item : CallbackItem) → is_open (item_text item) ≡ true
+item_open item =
+    open_append (spaced_number item.log ++ spaced_number item.log_moment ++ spaced_code item.code) (spaced_text item.msg)
+    (open_append (spaced_number item.log ++ spaced_number item.log_moment) (spaced_code item.code)
+    (open_append (spaced_number item.log) (spaced_number item.log_moment) (decimal_open item.log) (decimal_open item.log_moment)) (code_open item.code))
+    (quoted_open item.msg)
+
 words_open : (e : ClusterEvent) → is_open (event_words e) ≡ true
 words_open (NodeStart a) = decimal_open a
 words_open (NodeStop a) = decimal_open a
@@ -171,6 +189,20 @@ words_open (TriggerJob a at job own) =
 words_open (ScanBegin a at) = numbers_behind (codes "scan ") a at refl
 words_open (ScanStep a) = decimal_open a
 words_open (Turn a at) = numbers_behind (codes "turn ") a at refl
+words_open (Take a pool at w) = five (codes "take ") (decimal a) (32 ∷ pool_kind_text pool) (spaced_number at) (spaced_number w) refl (decimal_open a) (pool_kind_open pool) (decimal_open at) (decimal_open w)
+words_open (Sent l to c start end) =
+    open_append (codes "sent " ++ decimal l ++ 32 ∷ optional_text to ++ spaced_code c ++ spaced_number start) (spaced_number end)
+    (five (codes "sent ") (decimal l) (32 ∷ optional_text to) (spaced_code c) (spaced_number start) refl (decimal_open l) (optional_open to) (code_open c) (decimal_open start)) (decimal_open end)
+words_open (Callback a at item) = open_append (codes "back " ++ decimal a ++ spaced_number at) (item_text item) (numbers_behind (codes "back ") a at refl) (item_open item)
+words_open (Registry at group key value) =
+    five (codes "reg ") (decimal at) (spaced_text group) (spaced_text key) (spaced_text value) refl (decimal_open at) (quoted_open group) (quoted_open key) (quoted_open value)
+words_open (RegistryRemove group key value) =
+    open_append (codes "unreg " ++ quoted group ++ spaced_text key) (spaced_text value)
+    (open_append (codes "unreg " ++ quoted group) (spaced_text key) (open_append (codes "unreg ") (quoted group) refl (quoted_open group)) (quoted_open key)) (quoted_open value)
+words_open (Sweep at) = decimal_open at
+words_open (Monitor a at) = numbers_behind (codes "monitor ") a at refl
+words_open (Lost at) = decimal_open at
+words_open (Clean at) = decimal_open at
 words_open (ReadLog l) = decimal_open l
 words_open Reopen = refl
 

@@ -80,6 +80,7 @@ planned-fire kept admin at job pools param row fired below here rules found fire
     record {
       settings = s.keeps.settings;
       scan = s.keeps.scan;
+      taken = s.keeps.taken;
       tables = ap (applied_all kept.tables) fires.changes
           ∙ fired-tables kept h admin pools (shots_with kept.tables.groups (unwrap_or param row.spec.param) Manual at row) below here rules fires.ids s
           ∙ ap (λ ss. with_logs (records_of h) (last_log h + length ss) (rows_of (placed_at h admin ss))) asked;

@@ -1,3 +1,4 @@
+pub mod PageLemmas
 pub mod HandLemmas
 pub mod TurnLemmas
 pub mod ScanLemmas

@@ -50,5 +50,6 @@ planned-scan kept admin at limit count page many pages counted free running =
       settings = s.keeps.settings;
       tables = s.keeps.tables;
       scan = ap (λ p. begun admin at p) (is ∙ page-kept kept h at s);
+      taken = s.keeps.taken;
       nodes = s.keeps.nodes;
     }))

@@ -44,7 +44,7 @@ use Rattle.cluster_history.specs.Records.{records_of}
 use Rattle.scan_plans.specs.Steps.{StandsAt, IsNotScanning, ticket_put, shots_decided}
 use Rattle.cluster_plan.proofs.JobRows.{row-found, jobs-put, turn-allowed, row-stands, same-id}
 use Rattle.log_opening.proofs.FireLemmas.{ids-spent, ids-left}
-use Rattle.log_opening.proofs.FiringLemmas.{fired-rows, fired-allowed, fired-ids_job, fired-tables, pools-fired_by, pools-left, fired_changes, pools-seen, queues_opened, with_logs}
+use Rattle.log_opening.proofs.FiringLemmas.{fired-rows, fired-allowed, fired-ids_behind, fired-tables, pools-fired_by, pools-left, fired_changes, pools-seen, queues_opened, with_logs}
 use Rattle.cluster_plan.proofs.PlanLemmas.{planned, answered-running}
 use Rattle.cluster_plan.proofs.PutLemmas.{found-id}
 use Rattle.cluster_plan.proofs.RingLemmas.{ring_over, ring-one_put, ring-others_put}
@@ -117,6 +117,7 @@ stands-stepped kept h admin pools r look shots tables below here looks opens s r
   settings = s.keeps.settings;
   tables = rows;
   scan = ap stepped s.keeps.scan;
+  taken = s.keeps.taken;
   nodes = nodes-stepped kept h admin pools r look shots below here looks opens s;
 }
 
@@ -205,7 +206,7 @@ planned-look kept admin pools standing row new look fired changes below here sta
     let sum : changes ≡ fired_changes kept pools (shots_decided kept.tables.groups standing.at look.decision row) ++ PutJob new ∷ [] = all ∙ ap (λ cs. cs ++ PutJob new ∷ []) fires.changes in
     planned kept (ScanStep admin) (record { reply = LookReply standing.entry.job look.decision.case look.due look.decision.next look.decision.put fired.opened; changes = changes; node = node.Steps admin (ticket_put row look.decision.put) fired.entering.items })
     (subst (λ cs. AreAllowed kept.tables cs) (sym sum) (allowed_append kept.tables (fired_changes kept pools (shots_decided kept.tables.groups standing.at look.decision row)) (PutJob new ∷ []) opened (turn-allowed _ standing.entry.job row new row.edition look.decision.next kept_rules there made)))
-    (subst HasIdsFirst (sym sum) (fired-ids_job kept.tables pools (shots_decided kept.tables.groups standing.at look.decision row) new)) tt refl
+    (subst HasIdsFirst (sym sum) (fired-ids_behind kept.tables pools (shots_decided kept.tables.groups standing.at look.decision row) (PutJob new) refl)) tt refl
     (λ h s. look-reply kept (accepted h) admin standing row look below (running h s) stands (looked-kept kept (accepted h) admin standing row look stands found seen s) s
     ∙ ids-left kept.tables.last.log (length (shots_decided kept.tables.groups standing.at look.decision row)) _ fires.ids
     ∙ ap (λ n. LookReply standing.entry.job look.decision.case look.due look.decision.next look.decision.put (map opened_of (placed_from kept.tables.last.log n (shots_decided kept.tables.groups standing.at look.decision row)))) (sym here)

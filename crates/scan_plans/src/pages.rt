@@ -1,53 +1,76 @@
 //! The scan: its page and its next entry.
-ghost use Rattle.std.specs.Prelude.{◌≡◌, ◌+◌, take, map, filter, IfOk, IfNone, IfSome};
-ghost use Rattle.cluster_history.specs.Pages.{is_due_by, page_entry_of, page_in, begun};
+ghost use Rattle.std.specs.Prelude.{◌≡◌, ◌<◌, IfOk, IfNone, IfSome};
+ghost use Rattle.std.specs.List.{filter_map};
+ghost use Rattle.row_indexes.specs.Pages.{IsPage};
+ghost use Rattle.job_records.specs.DueJobs.{due_entries};
+ghost use Rattle.job_records.specs.Rules.{KeepsRules};
+ghost use Rattle.cluster_history.specs.Pages.{page_in, begun};
+ghost use Rattle.scan_plans.specs.Entries.{entry_at};
 ghost use Rattle.scan_plans.specs.Steps.{StandsAt, IsNotScanning};
 
 use cluster_history::{PageEntry, Scan};
-use job_records::Job;
-use job_values::limits::LOOK_AHEAD;
-use job_values::{AdminNo, Moment, NoMemory, Seq};
+use job_records::Records;
+use job_records::laws::law_page;
+use job_values::{AdminNo, JobId, Moment, NoMemory, Seq, Steps};
+use row_indexes::page_of;
 use std::alloc::{AllocError, Global};
+use std::marker::Brand;
+use std::sync::ledger::{Blank, Ledger};
 
-/// Whether a job's next time comes up to a number of milliseconds.
-fn is_due(job: &Job, bound: u64) -> bool
-    ensures { result ≡ is_due_by bound job.now.next }
+/// The ids of a page, from the index of the running jobs, by a ledger of steps that nobody reads.
+fn uncounted_ids<L: Ledger>(
+    alloc: Global,
+    records: &Records,
+    limit: usize,
+    at: Moment,
+    blank: Blank,
+) -> Result<Seq<JobId>, NoMemory>
+    requires name { blank.name ≡ L.name }
+    requires parts { blank.parts ≡ L.parts }
+    requires some { 0 < L.parts }
+    ensures { IfOk result (IsPage limit at (due_entries records.now.kept.jobs)) }
 {
-    match job.next {
-        Some(next) => next.get() <= bound,
-        None => false,
+    let mut steps = Steps::<L>::none(blank);
+    page_of(alloc, records.due(), at, limit, &mut steps)
+}
+
+/// The page entry of the job with this id.
+fn entry_of(records: &Records, id: JobId) -> Option<PageEntry>
+    ensures { result ≡ entry_at records.now.kept.jobs id }
+{
+    match records.job(id) {
+        Some(job) => Some(PageEntry {
+            job: job.id,
+            edition: job.edition,
+        }),
+        None => None,
     }
 }
 
-/// The first jobs that are due, up to the limit.
-fn due_entries(
-    alloc: Global,
-    jobs: &[Job],
-    limit: usize,
-    bound: u64,
-) -> Result<Vec<PageEntry>, AllocError>
-    ensures { IfOk result (λ page. page.items ≡ take limit (map page_entry_of (filter (λ job. is_due_by bound job.next) jobs.now))) }
+/// The page entries of the jobs with these ids.
+fn entries_of(alloc: Global, records: &Records, ids: &[JobId]) -> Result<Vec<PageEntry>, AllocError>
+    ensures { IfOk result (λ page. page.items ≡ filter_map (entry_at records.now.kept.jobs) ids.now) }
 {
-    jobs.iter()
-        .filter(|job| is_due(job, bound))
-        .map(|job| PageEntry {
-            job: job.id,
-            edition: job.edition,
-        })
-        .take(limit)
+    ids.iter()
+        .filter_map(|id| entry_of(records, *id))
         .collect(alloc)
 }
 
-/// The page of a scan at a moment.
+/// The page of a scan at a moment: a step for each job that is due and one more, and a look-up for
+/// each entry.
 pub fn page_at(
     alloc: Global,
-    jobs: &[Job],
+    records: &Records,
     limit: usize,
     at: Moment,
 ) -> Result<Vec<PageEntry>, NoMemory>
-    ensures { IfOk result (λ page. page.items ≡ page_in limit at jobs.now) }
+    requires { KeepsRules records.now.kept }
+    ensures { IfOk result (λ page. page.items ≡ page_in limit at records.now.kept.jobs) }
 {
-    due_entries(alloc, jobs, limit, at.get() + LOOK_AHEAD).map_err(|_| NoMemory)
+    let ids = uncounted_ids::<Brand>(alloc, records, limit, at, Blank::new(1))?;
+    law_page();
+    let page = entries_of(alloc, records, ids.as_slice())?;
+    Ok(page)
 }
 
 /// The scan of an admin at a moment; an empty page ends it at once.

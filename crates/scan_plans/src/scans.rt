@@ -23,7 +23,7 @@ use job_events::{ClusterRefusal, ClusterReply};
 use job_records::{Change, Job, Records};
 use job_values::limits::JOBS_PER_THREAD;
 use job_values::{AdminNo, Case, Edition, JobId, Moment, NoMemory, Seq, TriggerKind};
-use log_opening::{Fired, fire_job, push_row};
+use log_opening::{Fired, fire_job, nothing_fired, push_row};
 use misfire_rules::Decision;
 use std::alloc::Global;
 use time_ring::Ticket;
@@ -61,16 +61,11 @@ fn fire_look(
 ) -> Result<Option<Fired>, NoMemory>
     ensures { IfOk result (FiresAs records.now.kept.last (pools_in pools.now.kept) (shots_decided records.now.kept.groups at decision.now row.now)) }
 {
-    let _ = records.last_ids();
     if decision.fire_now {
         let kind = fired_kind(decision.case);
         return fire_job(alloc, records, row, &row.spec.param, kind, at, pools);
     }
-    Ok(Some(Fired {
-        changes: Vec::new(alloc),
-        entering: Vec::new(alloc),
-        opened: Seq::new(alloc),
-    }))
+    Ok(Some(nothing_fired(alloc, records)))
 }
 
 /// The ticket for a time that is put, if one is.
@@ -146,7 +141,7 @@ pub fn plan_scan(seen: &Seen<'_>, admin: AdminNo, at: Moment) -> Result<Prepared
     }
     let threads = seen.settings.fast as usize + seen.settings.slow as usize;
     let limit = threads * JOBS_PER_THREAD as usize;
-    let page = page_at(alloc, seen.records.jobs(), limit, at)?;
+    let page = page_at(alloc, seen.records, limit, at)?;
     let count = page.len() as u64;
     Ok(Prepared::changing(
         ClusterReply::Begun(count),

@@ -5,14 +5,14 @@ ghost use Rattle.job_events.specs.declared.cluster.ClusterEvent.TheVariants.{Tur
 ghost use Rattle.time_ring.specs.Ring.{slot_of_second, slot_before, tickets_in};
 ghost use Rattle.cluster_plan.specs.Kept.{IsSound, kept_in, ring_at};
 ghost use Rattle.cluster_plan.specs.Plans.{IsPlanned};
-ghost use Rattle.scan_plans.specs.Turning.{shots_at, OpensTicket, FiresAll};
+ghost use Rattle.scan_plans.specs.Turning.{FiresTickets};
 
 use cluster_plan::{NodeChange, Prepared, Seen};
-use job_events::{ClusterRefusal, ClusterReply, FiredTicket, Opened};
+use job_events::{ClusterRefusal, ClusterReply, FiredTicket};
 use job_records::Records;
-use job_values::limits::{LAST_LOG_ID, SECOND};
+use job_values::limits::SECOND;
 use job_values::{AdminNo, Moment, NoMemory, Seq, TriggerKind};
-use log_opening::{Openings, open_logs, opened_changes, push_row, shard_count};
+use log_opening::{Openings, open_job, opened_changes, push_row};
 use std::alloc::Global;
 use time_ring::Ticket;
 
@@ -21,30 +21,6 @@ use time_ring::Ticket;
 pub struct Turned<'a> {
     pub openings: Openings<'a>,
     pub fired: Vec<FiredTicket>,
-}
-
-/// Opens the logs of a ticket; None where the ids are spent. A ticket of a job that is gone opens
-/// none.
-fn open_ticket(
-    alloc: Global,
-    records: &Records,
-    at: Moment,
-    ticket: &Ticket,
-    openings: &mut Openings<'_>,
-) -> Result<Option<Seq<Opened>>, NoMemory>
-    requires { openings.old.last ≤ LAST_LOG_ID }
-    ensures { IfOk result (OpensTicket (shots_at records.now.kept at ticket.now) openings.old openings.new) }
-{
-    let Some(row) = records.job(ticket.job) else {
-        return Ok(Some(Seq::new(alloc)));
-    };
-    let total = shard_count(records, &row.spec);
-    if openings.last + total as u64 > LAST_LOG_ID {
-        return Ok(None);
-    }
-    let param = &row.spec.param;
-    let opened = open_logs(alloc, row, param, TriggerKind::Cron, at, total, openings)?;
-    Ok(Some(opened))
 }
 
 /// Fires a ticket; false where the ids are spent.
@@ -56,9 +32,10 @@ fn fire_ticket(
     turned: &mut Turned<'_>,
 ) -> Result<bool, NoMemory>
     requires { turned.old.openings.last ≤ LAST_LOG_ID }
-    ensures { IfOk result (FiresAll records.now.kept at (ticket.now ∷ []) turned.old turned.new) }
+    ensures { IfOk result (FiresTickets records.now.kept at (ticket.now ∷ []) turned.old turned.new) }
 {
-    let opened = open_ticket(alloc, records, at, ticket, &mut turned.openings)?;
+    let kind = TriggerKind::Cron;
+    let opened = open_job(alloc, records, kind, at, ticket.job, &mut turned.openings)?;
     let Some(opened) = opened else {
         return Ok(false);
     };
@@ -81,7 +58,7 @@ fn fire_tickets(
     turned: &mut Turned<'_>,
 ) -> Result<bool, NoMemory>
     requires { turned.old.openings.last ≤ LAST_LOG_ID }
-    ensures { IfOk result (FiresAll records.now.kept at tickets.now turned.old turned.new) }
+    ensures { IfOk result (FiresTickets records.now.kept at tickets.now turned.old turned.new) }
 {
     for ticket in tickets {
         let fits = fire_ticket(alloc, records, at, ticket, turned)?;
@@ -103,7 +80,7 @@ fn fire_slots(
     turned: &mut Turned<'_>,
 ) -> Result<bool, NoMemory>
     requires { turned.old.openings.last ≤ LAST_LOG_ID }
-    ensures { IfOk result (FiresAll records.now.kept at (present.now ++ past.now) turned.old turned.new) }
+    ensures { IfOk result (FiresTickets records.now.kept at (present.now ++ past.now) turned.old turned.new) }
 {
     let fits = fire_tickets(alloc, records, at, present, turned)?;
     if !fits {

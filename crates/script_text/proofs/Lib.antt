@@ -1,4 +1,7 @@
+pub mod Codes
 pub mod LineLaws
+pub mod ManageLaws
+pub mod ReadLaws
 pub mod SaidWords
 pub mod SpecLaws
 pub mod SpecReading

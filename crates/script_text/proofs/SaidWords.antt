@@ -1,8 +1,11 @@
 -- What a word of a line says, as it is written: each is said, and nothing else is.
-use Rattle.std.proofs.Common.{◌≡◌, true, ℕ, zero, suc, ◌≤◌, List, [], ◌∷◌, ◌++◌, length, map, get_or, Option, refl, sym, ap, subst, ◌∙◌, arith}
+use Rattle.std.proofs.Common.{◌≡◌, true, ℕ, zero, suc, ◌≤◌, List, [], ◌∷◌, ◌++◌, length, map, get_or, ℤ, Option, refl, sym, ap, subst, ◌∙◌, arith, Some, None}
 use Rattle.std.specs.Prelude.{decimal, codes, IfSome, if◌then◌else◌}
+use Rattle.std.specs.Fmt.{signed_decimal}
 use Rattle.std.specs.Str.{bytes_eq}
 use Rattle.std.specs.List.{AllByRecursion}
+use Rattle.job_values.specs.declared.words.PoolKind.{PoolKind}
+use Rattle.job_values.specs.declared.words.PoolKind.TheVariants.{Fast, Slow}
 use Rattle.job_values.specs.declared.words.GroupKind.{GroupKind}
 use Rattle.job_values.specs.declared.words.GroupKind.TheVariants.{Auto, Manual}
 use Rattle.job_values.specs.declared.words.ScheduleKind.{ScheduleKind}
@@ -13,7 +16,7 @@ use Rattle.job_values.specs.declared.words.Block.{Block}
 use Rattle.job_values.specs.declared.words.Block.TheVariants.{SerialExecution, DiscardLater, CoverEarly}
 use Rattle.job_values.specs.declared.words.Route.{Route}
 use Rattle.job_values.specs.declared.words.Route.TheVariants.{First, Last, Round, Random, ConsistentHash, LeastFrequentlyUsed, LeastRecentlyUsed, Failover, Busyover, ShardingBroadcast}
-use Rattle.job_values.specs.Words.{schedule_kind_text, misfire_text, route_text, block_text, group_kind_text}
+use Rattle.job_values.specs.Words.{schedule_kind_text, misfire_text, route_text, block_text, group_kind_text, pool_kind_text}
 use Rattle.line_grammar.specs.declared.ends.End.{End}
 use Rattle.line_grammar.specs.declared.ends.End.TheVariants.{Space, Line}
 use Rattle.line_grammar.specs.declared.texts.TextForm.{TextForm}
@@ -24,15 +27,16 @@ use Rattle.line_grammar.specs.Choices.{IsWord, are_apart}
 use Rattle.line_grammar.specs.Dashes.{number_form}
 use Rattle.line_grammar.specs.Lists.{count_form}
 use Rattle.line_grammar.specs.Writing.{quoted, optional_text, counted_texts, counted_numbers}
-use Rattle.line_grammar.specs.Grammar.{Grammar, Gives, Number, Text, Optional, Choice, TextList, EndedNumbers, Says}
+use Rattle.line_grammar.specs.Grammar.{Grammar, Gives, Number, Text, Optional, Code, Choice, TextList, EndedNumbers, Says}
 use Rattle.line_grammar.specs.Parts.{and_then}
 use Rattle.line_grammar.specs.Tables.{one_of}
 use Rattle.line_grammar.specs.Laws.{IsNumberOf, IsTextOf}
 use Rattle.line_grammar.proofs.Decimals.{number_whole}
 use Rattle.line_grammar.proofs.Spellings.{text_whole, optional_said, optional_found, text_list_said, text_list_found, number_list_said, number_list_found, within_ends}
 use Rattle.line_grammar.proofs.PartLaws.{part_said, part_found}
-use Rattle.script_text.specs.Words.{group_kind, group_kind_at, schedule_kind, schedule_kind_at, misfire, misfire_at, route, route_at, route_words, block, block_at}
-use Rattle.script_text.specs.Spelling.{IsBuiltRoute}
+use Rattle.script_text.specs.Words.{pool_kind, pool_kind_at, group_kind, group_kind_at, schedule_kind, schedule_kind_at, misfire, misfire_at, route, route_at, route_words, block, block_at}
+use Rattle.script_text.specs.Spelling.{CodeFits}
+use Rattle.script_text.proofs.Codes.{code_said, code_found}
 
 -- ---- a grammar says a value by a text
 
@@ -50,13 +54,20 @@ pub say_below : {E : Type 0} (greatest : ℕ) (end : End) {ok : is_number_form (
     → IsSaid (Number (number_form 0 greatest end) ok next) e ((decimal n ++ end_byte end ∷ []) ++ rest)
 say_below greatest end n high s = say_number 0 greatest end n (omega arith) high s
 
-pub say_text : {E : Type 0} (least greatest : ℕ) {ok : is_text_form (text_form least greatest Space) ≡ true} {next : List ℕ → Grammar E} {e : E} {rest : List ℕ} (t : List ℕ) → IsTextOf (text_form least greatest Line) t → IsSaid (next t) e rest
-    → IsSaid (Text (text_form least greatest Space) ok next) e ((quoted t ++ 32 ∷ []) ++ rest)
-say_text least greatest {rest = rest} t h s = record { says = (t, quoted t ++ 32 ∷ [], rest, (h.utf8, h.least, h.greatest, sym (text_whole (text_form least greatest Space) t)), s.says, refl) }
+pub say_text : {E : Type 0} (least greatest : ℕ) (end : End) {ok : is_text_form (text_form least greatest end) ≡ true} {next : List ℕ → Grammar E} {e : E} {rest : List ℕ} (t : List ℕ) → IsTextOf (text_form least greatest Line) t → IsSaid (next t) e rest
+    → IsSaid (Text (text_form least greatest end) ok next) e ((quoted t ++ end_byte end ∷ []) ++ rest)
+say_text least greatest end {rest = rest} t h s = record { says = (t, quoted t ++ end_byte end ∷ [], rest, (h.utf8, h.least, h.greatest, sym (text_whole (text_form least greatest end) t)), s.says, refl) }
 
-pub say_optional : {E : Type 0} (least greatest : ℕ) {ok : is_text_form (text_form least greatest Line) ≡ true} {next : Option (List ℕ) → Grammar E} {e : E} {rest : List ℕ} (o : Option (List ℕ)) → IfSome o (IsTextOf (text_form least greatest Line)) → IsSaid (next o) e rest
-    → IsSaid (Optional (text_form least greatest Line) ok next) e ((optional_text o ++ 10 ∷ []) ++ rest)
-say_optional least greatest {rest = rest} o h s = record { says = (o, optional_text o ++ 10 ∷ [], rest, optional_said (text_form least greatest Line) o h, s.says, refl) }
+pub say_code : {E : Type 0} (end : End) {next : ℤ → Grammar E} {e : E} {rest : List ℕ} (z : ℤ) → CodeFits z → IsSaid (next z) e rest → IsSaid (Code end next) e ((signed_decimal z ++ end_byte end ∷ []) ++ rest)
+say_code end {rest = rest} z h s = record { says = (z, signed_decimal z ++ end_byte end ∷ [], rest, code_said end z h, s.says, refl) }
+
+pub say_optional : {E : Type 0} (least greatest : ℕ) (end : End) {ok : is_text_form (text_form least greatest end) ≡ true} {next : Option (List ℕ) → Grammar E} {e : E} {rest : List ℕ} (o : Option (List ℕ)) → IfSome o (IsTextOf (text_form least greatest Line)) → IsSaid (next o) e rest
+    → IsSaid (Optional (text_form least greatest end) ok next) e ((optional_text o ++ end_byte end ∷ []) ++ rest)
+say_optional least greatest end {rest = rest} o h s = record { says = (o, optional_text o ++ end_byte end ∷ [], rest, optional_said (text_form least greatest end) o (within o h), s.says, refl) }
+  where
+    within : (o : Option (List ℕ)) → IfSome o (IsTextOf (text_form least greatest Line)) → IfSome o (IsTextOf (text_form least greatest end))
+    within None h = tt
+    within (Some t) h = record { utf8 = h.utf8; least = h.least; greatest = h.greatest }
 
 pub say_texts : {E : Type 0} (most least greatest : ℕ) {counts : is_number_form (count_form most Line) ≡ true} {ok : is_text_form (text_form least greatest Line) ≡ true} {next : List (List ℕ) → Grammar E} {e : E} {rest : List ℕ} (ts : List (List ℕ)) → length ts ≤ most → AllByRecursion (IsTextOf (text_form least greatest Line)) ts → IsSaid (next ts) e rest
     → IsSaid (TextList most (text_form least greatest Line) counts ok next) e ((counted_texts ts ++ 10 ∷ []) ++ rest)
@@ -105,18 +116,24 @@ only_number {S = S} least greatest end {front = front} on = record {
       subst (λ (t : List ℕ). S e (front t)) (sym (h.5 ∙ ap (λ (x : List ℕ). x ++ h.2) (h.3.2 ∙ number_whole least greatest end h.0))) ((on h.0).holds e h.2 h.4);
 }
 
-pub only_text : {E : Type 0} {S : E → List ℕ → Type 0} (least greatest : ℕ) {ok : is_text_form (text_form least greatest Space) ≡ true} {next : List ℕ → Grammar E} {front : List ℕ → List ℕ} → ((t : List ℕ) → SaysOnly S (next t) (λ rest. front ((quoted t ++ 32 ∷ []) ++ rest)))
-    → SaysOnly S (Text (text_form least greatest Space) ok next) front
-only_text {S = S} least greatest {front = front} on = record {
+pub only_text : {E : Type 0} {S : E → List ℕ → Type 0} (least greatest : ℕ) (end : End) {ok : is_text_form (text_form least greatest end) ≡ true} {next : List ℕ → Grammar E} {front : List ℕ → List ℕ} → ((t : List ℕ) → SaysOnly S (next t) (λ rest. front ((quoted t ++ end_byte end ∷ []) ++ rest)))
+    → SaysOnly S (Text (text_form least greatest end) ok next) front
+only_text {S = S} least greatest end {front = front} on = record {
   holds = λ e text h.
-      subst (λ (t : List ℕ). S e (front t)) (sym (h.5 ∙ ap (λ (x : List ℕ). x ++ h.2) (h.3.3 ∙ text_whole (text_form least greatest Space) h.0))) ((on h.0).holds e h.2 h.4);
+      subst (λ (t : List ℕ). S e (front t)) (sym (h.5 ∙ ap (λ (x : List ℕ). x ++ h.2) (h.3.3 ∙ text_whole (text_form least greatest end) h.0))) ((on h.0).holds e h.2 h.4);
 }
 
-pub only_optional : {E : Type 0} {S : E → List ℕ → Type 0} (least greatest : ℕ) {ok : is_text_form (text_form least greatest Line) ≡ true} {next : Option (List ℕ) → Grammar E} {front : List ℕ → List ℕ} → ((o : Option (List ℕ)) → SaysOnly S (next o) (λ rest. front ((optional_text o ++ 10 ∷ []) ++ rest)))
-    → SaysOnly S (Optional (text_form least greatest Line) ok next) front
-only_optional {S = S} least greatest {front = front} on = record {
+pub only_code : {E : Type 0} {S : E → List ℕ → Type 0} (end : End) {next : ℤ → Grammar E} {front : List ℕ → List ℕ} → ((z : ℤ) → SaysOnly S (next z) (λ rest. front ((signed_decimal z ++ end_byte end ∷ []) ++ rest))) → SaysOnly S (Code end next) front
+only_code {S = S} end {front = front} on = record {
   holds = λ e text h.
-      subst (λ (t : List ℕ). S e (front t)) (sym (h.5 ∙ ap (λ (x : List ℕ). x ++ h.2) (optional_found (text_form least greatest Line) h.0 h.1 h.3))) ((on h.0).holds e h.2 h.4);
+      subst (λ (t : List ℕ). S e (front t)) (sym (h.5 ∙ ap (λ (x : List ℕ). x ++ h.2) (code_found end h.0 h.1 h.3))) ((on h.0).holds e h.2 h.4);
+}
+
+pub only_optional : {E : Type 0} {S : E → List ℕ → Type 0} (least greatest : ℕ) (end : End) {ok : is_text_form (text_form least greatest end) ≡ true} {next : Option (List ℕ) → Grammar E} {front : List ℕ → List ℕ} → ((o : Option (List ℕ)) → SaysOnly S (next o) (λ rest. front ((optional_text o ++ end_byte end ∷ []) ++ rest)))
+    → SaysOnly S (Optional (text_form least greatest end) ok next) front
+only_optional {S = S} least greatest end {front = front} on = record {
+  holds = λ e text h.
+      subst (λ (t : List ℕ). S e (front t)) (sym (h.5 ∙ ap (λ (x : List ℕ). x ++ h.2) (optional_found (text_form least greatest end) h.0 h.1 h.3))) ((on h.0).holds e h.2 h.4);
 }
 
 pub only_texts : {E : Type 0} {S : E → List ℕ → Type 0} (most : ℕ) (form : TextForm) {counts : is_number_form (count_form most form.behind) ≡ true} {ok : is_text_form form ≡ true} {next : List (List ℕ) → Grammar E} {front : List ℕ → List ℕ} → ((ts : List (List ℕ)) → SaysOnly S (next ts) (λ rest. front ((counted_texts ts ++ end_byte form.behind ∷ []) ++ rest)))
@@ -174,6 +191,10 @@ only_part {S = S} g next {front = front} part on = record {
 
 -- ---- which word stands for a value
 
+pub pool_kind_said : (k : PoolKind) → HasWord (codes "fast " ∷ codes "slow " ∷ []) pool_kind_at k (pool_kind_text k ++ 32 ∷ [])
+pool_kind_said Fast = record { place = 0; word = refl; value = refl }
+pool_kind_said Slow = record { place = 1; word = refl; value = refl }
+
 pub group_kind_said : (k : GroupKind) → HasWord (codes "auto " ∷ codes "manual " ∷ []) group_kind_at k (group_kind_text k ++ 32 ∷ [])
 group_kind_said Auto = record { place = 0; word = refl; value = refl }
 group_kind_said Manual = record { place = 1; word = refl; value = refl }
@@ -187,17 +208,17 @@ pub misfire_said : (k : Misfire) → HasWord (codes "DO_NOTHING " ∷ codes "FIR
 misfire_said DoNothing = record { place = 0; word = refl; value = refl }
 misfire_said FireOnceNow = record { place = 1; word = refl; value = refl }
 
-pub route_said : (k : Route) → IsBuiltRoute k → HasWord (codes "FIRST " ∷ route_words) route_at k (route_text k ++ 32 ∷ [])
-route_said First h = record { place = 0; word = refl; value = refl }
-route_said Last h = record { place = 1; word = refl; value = refl }
-route_said Round h = record { place = 2; word = refl; value = refl }
-route_said Random h = record { place = 3; word = refl; value = refl }
-route_said ConsistentHash h = record { place = 4; word = refl; value = refl }
-route_said LeastFrequentlyUsed h = record { place = 5; word = refl; value = refl }
-route_said LeastRecentlyUsed h = record { place = 6; word = refl; value = refl }
-route_said Failover h = record { place = 7; word = refl; value = refl }
-route_said Busyover h = record { place = 8; word = refl; value = refl }
-route_said ShardingBroadcast h = absurd h
+pub route_said : (k : Route) → HasWord (codes "FIRST " ∷ route_words) route_at k (route_text k ++ 32 ∷ [])
+route_said First = record { place = 0; word = refl; value = refl }
+route_said Last = record { place = 1; word = refl; value = refl }
+route_said Round = record { place = 2; word = refl; value = refl }
+route_said Random = record { place = 3; word = refl; value = refl }
+route_said ConsistentHash = record { place = 4; word = refl; value = refl }
+route_said LeastFrequentlyUsed = record { place = 5; word = refl; value = refl }
+route_said LeastRecentlyUsed = record { place = 6; word = refl; value = refl }
+route_said Failover = record { place = 7; word = refl; value = refl }
+route_said Busyover = record { place = 8; word = refl; value = refl }
+route_said ShardingBroadcast = record { place = 9; word = refl; value = refl }
 
 pub block_said : (k : Block) → HasWord (codes "SERIAL_EXECUTION " ∷ codes "DISCARD_LATER " ∷ codes "COVER_EARLY " ∷ []) block_at k (block_text k ++ 32 ∷ [])
 block_said SerialExecution = record { place = 0; word = refl; value = refl }
@@ -205,6 +226,10 @@ block_said DiscardLater = record { place = 1; word = refl; value = refl }
 block_said CoverEarly = record { place = 2; word = refl; value = refl }
 
 -- ---- and nothing else does
+
+pub only_pool_kind : {E : Type 0} {S : E → List ℕ → Type 0} (next : PoolKind → Grammar E) {front : List ℕ → List ℕ} → ((k : PoolKind) → SaysOnly S (next k) (λ rest. front ((pool_kind_text k ++ 32 ∷ []) ++ rest)))
+    → SaysOnly S (pool_kind next) front
+only_pool_kind next on = only_word (codes "fast ") (codes "slow " ∷ []) (on Fast, (on Slow, tt))
 
 pub only_group_kind : {E : Type 0} {S : E → List ℕ → Type 0} (next : GroupKind → Grammar E) {front : List ℕ → List ℕ} → ((k : GroupKind) → SaysOnly S (next k) (λ rest. front ((group_kind_text k ++ 32 ∷ []) ++ rest)))
     → SaysOnly S (group_kind next) front
@@ -218,10 +243,10 @@ pub only_misfire : {E : Type 0} {S : E → List ℕ → Type 0} (next : Misfire 
     → SaysOnly S (misfire next) front
 only_misfire next on = only_word (codes "DO_NOTHING ") (codes "FIRE_ONCE_NOW " ∷ []) (on DoNothing, (on FireOnceNow, tt))
 
-pub only_route : {E : Type 0} {S : E → List ℕ → Type 0} (next : Route → Grammar E) {front : List ℕ → List ℕ} → ((k : Route) → IsBuiltRoute k → SaysOnly S (next k) (λ rest. front ((route_text k ++ 32 ∷ []) ++ rest)))
+pub only_route : {E : Type 0} {S : E → List ℕ → Type 0} (next : Route → Grammar E) {front : List ℕ → List ℕ} → ((k : Route) → SaysOnly S (next k) (λ rest. front ((route_text k ++ 32 ∷ []) ++ rest)))
     → SaysOnly S (route next) front
 only_route next on =
-    only_word (codes "FIRST ") route_words (on First tt, (on Last tt, (on Round tt, (on Random tt, (on ConsistentHash tt, (on LeastFrequentlyUsed tt, (on LeastRecentlyUsed tt, (on Failover tt, (on Busyover tt, tt)))))))))
+    only_word (codes "FIRST ") route_words (on First, (on Last, (on Round, (on Random, (on ConsistentHash, (on LeastFrequentlyUsed, (on LeastRecentlyUsed, (on Failover, (on Busyover, (on ShardingBroadcast, tt))))))))))
 
 pub only_block : {E : Type 0} {S : E → List ℕ → Type 0} (next : Block → Grammar E) {front : List ℕ → List ℕ} → ((k : Block) → SaysOnly S (next k) (λ rest. front ((block_text k ++ 32 ∷ []) ++ rest)))
     → SaysOnly S (block next) front

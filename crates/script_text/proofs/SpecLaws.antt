@@ -21,7 +21,7 @@ use Rattle.line_grammar.specs.Writing.{quoted, counted_numbers}
 use Rattle.line_grammar.specs.Grammar.{Grammar, Gives, Number, Text, EndedNumbers, Says}
 use Rattle.script_text.specs.Words.{schedule_kind_at, misfire, misfire_at, route, route_at, route_words, block, block_at}
 use Rattle.script_text.specs.Lines.{zone, spec}
-use Rattle.script_text.specs.Spelling.{zone_text, spec_text, IsBuiltRoute, SpecFits}
+use Rattle.script_text.specs.Spelling.{zone_text, spec_text, SpecFits}
 use Rattle.script_text.proofs.SaidWords.{IsSaid, SaysOnly, say_end, say_number, say_below, say_text, say_ended, say_word, say_part, only_end, only_number, only_text, only_ended, only_part, at_place, only_schedule_kind, only_misfire, only_route, only_block, schedule_kind_said, misfire_said, route_said, block_said}
 use Rattle.job_values.specs.declared.limits.TheConstants.{LAST_JOB_ID, LAST_SECONDS, LAST_RETRIES, LONGEST_PARAM, LONGEST_SCHEDULE_GIVEN, LONGEST_NAME, MOST_CHILDREN}
 
@@ -113,31 +113,29 @@ zone_only end = record { holds = zone_found end }
 
 -- ---- the laws
 
-pub spec_said : (s : JobSpec) → IsBuiltRoute s.route → SpecFits s → IsSaid spec s (spec_text s ++ 10 ∷ [])
-spec_said s built f =
+pub spec_said : (s : JobSpec) → SpecFits s → IsSaid spec s (spec_text s ++ 10 ∷ [])
+spec_said s f =
     subst (IsSaid spec s) (spec_words (decimal s.group) (schedule_kind_text s.kind) (quoted s.schedule) (misfire_text s.misfire) (route_text s.route) (block_text s.block) (quoted s.handler) (quoted s.param) (decimal s.timeout) (decimal s.retries) (counted_numbers s.children) (end_byte (end_behind s.zone)) (zone_line s.zone) (zone_text s.zone) (zone_shift s.zone))
     (say_number 1 LAST_JOB_ID Space s.group f.group.least f.group.greatest
     (say_word (codes "NONE ") (codes "CRON " ∷ codes "FIX_RATE " ∷ []) schedule_kind_at (behind_kind s.group) s.kind (schedule_kind_text s.kind ++ 32 ∷ []) (schedule_kind_said s.kind)
-    (say_text 0 LONGEST_SCHEDULE_GIVEN s.schedule f.schedule
+    (say_text 0 LONGEST_SCHEDULE_GIVEN Space s.schedule f.schedule
     (say_word (codes "DO_NOTHING ") (codes "FIRE_ONCE_NOW " ∷ []) misfire_at (behind_misfire s.group s.kind s.schedule) s.misfire (misfire_text s.misfire ++ 32 ∷ []) (misfire_said s.misfire)
-    (say_word (codes "FIRST ") route_words route_at (behind_route s.group s.kind s.schedule s.misfire) s.route (route_text s.route ++ 32 ∷ []) (route_said s.route built)
+    (say_word (codes "FIRST ") route_words route_at (behind_route s.group s.kind s.schedule s.misfire) s.route (route_text s.route ++ 32 ∷ []) (route_said s.route)
     (say_word (codes "SERIAL_EXECUTION ") (codes "DISCARD_LATER " ∷ codes "COVER_EARLY " ∷ []) block_at (behind_block s.group s.kind s.schedule s.misfire s.route) s.block (block_text s.block ++ 32 ∷ []) (block_said s.block)
-    (say_text 0 LONGEST_NAME s.handler f.work.handler (say_text 0 LONGEST_PARAM s.param f.work.param
+    (say_text 0 LONGEST_NAME Space s.handler f.work.handler (say_text 0 LONGEST_PARAM Space s.param f.work.param
     (say_below LAST_SECONDS Space s.timeout f.work.timeout (say_below LAST_RETRIES Space s.retries f.work.retries
     (say_ended MOST_CHILDREN 1 LAST_JOB_ID (end_behind s.zone) s.children f.work.count f.work.children
     (say_part (zone (end_behind s.zone)) (λ z. Gives (record s { zone = z })) (zone_said s.zone f.zone) say_end))))))))))))
 
--- the words of a spec that is built
+-- the words of a spec, and the end of its line
 abbrev pub IsSpecText : JobSpec → List ℕ → Type 0
-IsSpecText s text = IsBuiltRoute s.route × (text ≡ spec_text s ++ 10 ∷ [])
+IsSpecText s text = text ≡ spec_text s ++ 10 ∷ []
 
 pub spec_only : SaysOnly IsSpecText spec (λ text. text)
 spec_only =
-    only_number 1 LAST_JOB_ID Space (λ g. only_schedule_kind (behind_kind g) (λ k. only_text 0 LONGEST_SCHEDULE_GIVEN (λ q. only_misfire (behind_misfire g k q) (λ m. only_route (behind_route g k q m) (λ r built. only_block (behind_block g k q m r) (λ b.
-    only_text 0 LONGEST_NAME (λ h. only_text 0 LONGEST_PARAM (λ p. only_number 0 LAST_SECONDS Space (λ t. only_number 0 LAST_RETRIES Space (λ n. only_ended MOST_CHILDREN 1 LAST_JOB_ID (λ end l.
+    only_number 1 LAST_JOB_ID Space (λ g. only_schedule_kind (behind_kind g) (λ k. only_text 0 LONGEST_SCHEDULE_GIVEN Space (λ q. only_misfire (behind_misfire g k q) (λ m. only_route (behind_route g k q m) (λ r. only_block (behind_block g k q m r) (λ b.
+    only_text 0 LONGEST_NAME Space (λ h. only_text 0 LONGEST_PARAM Space (λ p. only_number 0 LAST_SECONDS Space (λ t. only_number 0 LAST_RETRIES Space (λ n. only_ended MOST_CHILDREN 1 LAST_JOB_ID (λ end l.
     only_part (zone end) (λ z. Gives (job_of g k q m r b h p t n l z)) (zone_only end) (λ z first is.
-    only_end (
-      built,
-      spec_words (decimal g) (schedule_kind_text k) (quoted q) (misfire_text m) (route_text r) (block_text b) (quoted h) (quoted p) (decimal t) (decimal n) (counted_numbers l) (end_byte end) first (zone_text z)
-          (ap (λ (e : End). end_byte e ∷ first) is.0 ∙ ap (λ (x : List ℕ). end_byte (end_behind z) ∷ x) is.1 ∙ zone_shift z),
-    )))))))))))))
+    only_end
+    (spec_words (decimal g) (schedule_kind_text k) (quoted q) (misfire_text m) (route_text r) (block_text b) (quoted h) (quoted p) (decimal t) (decimal n) (counted_numbers l) (end_byte end) first (zone_text z)
+    (ap (λ (e : End). end_byte e ∷ first) is.0 ∙ ap (λ (x : List ℕ). end_byte (end_behind z) ∷ x) is.1 ∙ zone_shift z))))))))))))))

@@ -1,7 +1,7 @@
 -- The lines of a script: one table of commands, and the grammar that it makes.
 use Rattle.std.specs.Prelude.{ℕ, refl, List, [], ◌∷◌, codes, Result}
 use Rattle.job_events.specs.declared.cluster.ClusterEvent.{ClusterEvent}
-use Rattle.job_events.specs.declared.cluster.ClusterEvent.TheVariants.{NodeStart, NodeStop, NodeAsk, AddGroup, SetGroup, AddJob, UpdateJob, StartJob, StopJob, RemoveJob, TriggerJob, ScanBegin, ScanStep, Turn, ReadLog, Reopen}
+use Rattle.job_events.specs.declared.cluster.ClusterEvent.TheVariants.{NodeStart, NodeStop, NodeAsk, AddGroup, SetGroup, AddJob, UpdateJob, StartJob, StopJob, RemoveJob, TriggerJob, ScanBegin, ScanStep, Turn, Take, Sent, Callback, Registry, RegistryRemove, Sweep, Monitor, Lost, Clean, ReadLog, Reopen}
 use Rattle.job_values.specs.declared.spec.JobSpec.{JobSpec}
 use Rattle.job_values.specs.declared.limits.TheConstants.{LAST_JOB_ID, LAST_SECONDS, LAST_RETRIES, LONGEST_PARAM, LONGEST_SCHEDULE_GIVEN, LONGEST_NAME, LONGEST_APP, MOST_ADDRESSES, MOST_CHILDREN}
 use Rattle.line_grammar.specs.declared.ends.End.{End}
@@ -9,18 +9,18 @@ use Rattle.line_grammar.specs.declared.ends.End.TheVariants.{Space, Line}
 use Rattle.line_grammar.specs.Texts.{text_form}
 use Rattle.line_grammar.specs.Dashes.{number_form}
 use Rattle.line_grammar.specs.Reading.{◌>>=◌}
-use Rattle.line_grammar.specs.Grammar.{Grammar, Gives, Number, Text, TextList, EndedNumbers, Choice, Says, reading}
+use Rattle.line_grammar.specs.Grammar.{Grammar, Gives, Number, Text, Code, TextList, EndedNumbers, Choice, Says, reading}
 use Rattle.line_grammar.specs.Parts.{and_then}
 use Rattle.line_grammar.specs.Tables.{one_of, rows_of, row_at}
 use Rattle.script_text.specs.declared.commands.Command.{Command}
 use Rattle.script_text.specs.declared.commands.Command.TheVariants as command
-use Rattle.script_text.specs.Words.{admin, moment, id, log, param, group_kind, schedule_kind, misfire, route, block}
+use Rattle.script_text.specs.Words.{admin, moment, id, log, log_moment, result_text, registry_text, address, choice_word, pool_kind, param, group_kind, schedule_kind, misfire, route, block}
 
 -- ---- parts of lines
 
 -- LIST at the end of a line: a count and that many addresses
-abbrev pub addresses : (List (List ℕ) → ClusterEvent) → Grammar ClusterEvent
-addresses event = TextList MOST_ADDRESSES (text_form 1 LONGEST_NAME Line) refl refl (λ texts. Gives (event texts))
+abbrev pub addresses : {E : Type 0} → (List (List ℕ) → E) → Grammar E
+addresses said = TextList MOST_ADDRESSES (text_form 1 LONGEST_NAME Line) refl refl (λ texts. Gives (said texts))
 
 -- the zone of a spec: none where LF ends the children, or else the word and a text of at least one byte
 abbrev pub zone : End → Grammar (List ℕ)
@@ -76,6 +76,31 @@ row command.Scan = (codes "scan ", admin Space (λ a. moment Line (λ at. Gives 
 row command.Step = (codes "step ", admin Line (λ a. Gives (ScanStep a)))
 -- turn A T
 row command.Turn = (codes "turn ", admin Space (λ a. moment Line (λ at. Gives (Turn a at))))
+-- take A POOL T W: the pool, and a word for a random choice
+row command.Take = (codes "take ", admin Space (λ a. pool_kind (λ pool. moment Space (λ at. choice_word Line (λ w. Gives (Take a pool at w))))))
+-- sent LOG ADDR CODE T T: the address or `-`, a signed code, and when the sending began and ended
+row command.Sent = (
+  codes "sent ",
+  log Space (λ l. address Space (λ to. Code Space (λ c. moment Space (λ start. moment Line (λ end. Gives (Sent l to c start end)))))),
+)
+-- back A T LOG W CODE TEXT: the result of a log, with the log's moment, a signed code and a text
+row command.Back = (
+  codes "back ",
+  admin Space (λ a. moment Space (λ at. log Space (λ l. log_moment Space (λ w. Code Space (λ c. result_text Line (λ t.
+      Gives (Callback a at (record { log = l; log_moment = w; code = c; msg = t })))))))),
+)
+-- reg T TEXT TEXT TEXT: the group of the call, the app, the address
+row command.Register = (codes "reg ", moment Space (λ at. registry_text Space (λ group. registry_text Space (λ key. registry_text Line (λ value. Gives (Registry at group key value))))))
+-- unreg TEXT TEXT TEXT
+row command.Unregister = (codes "unreg ", registry_text Space (λ group. registry_text Space (λ key. registry_text Line (λ value. Gives (RegistryRemove group key value)))))
+-- sweep T
+row command.Sweep = (codes "sweep ", moment Line (λ at. Gives (Sweep at)))
+-- monitor A T
+row command.Monitor = (codes "monitor ", admin Space (λ a. moment Line (λ at. Gives (Monitor a at))))
+-- lost T
+row command.Lost = (codes "lost ", moment Line (λ at. Gives (Lost at)))
+-- clean T
+row command.Clean = (codes "clean ", moment Line (λ at. Gives (Clean at)))
 -- showlog LOG
 row command.ShowLog = (codes "showlog ", log Line (λ l. Gives (ReadLog l)))
 -- reopen
@@ -85,7 +110,8 @@ row command.Reopen = (codes "reopen\n", Gives Reopen)
 abbrev pub other_commands : List Command
 other_commands =
     command.Stop ∷ command.Ask ∷ command.AddGroup ∷ command.SetGroup ∷ command.AddJob ∷ command.SetJob ∷ command.StartJob ∷ command.StopJob ∷ command.DropJob
-    ∷ command.Fire ∷ command.Scan ∷ command.Step ∷ command.Turn ∷ command.ShowLog ∷ command.Reopen ∷ []
+    ∷ command.Fire ∷ command.Scan ∷ command.Step ∷ command.Turn ∷ command.Take ∷ command.Sent ∷ command.Back ∷ command.Register ∷ command.Unregister ∷ command.Sweep ∷ command.Monitor ∷ command.Lost
+    ∷ command.Clean ∷ command.ShowLog ∷ command.Reopen ∷ []
 
 -- the word that begins the line of a command
 abbrev pub word : Command → List ℕ

@@ -16,7 +16,8 @@ use job_values::{Addresses, Seq};
 use line_grammar::{End, ReadError, Reader};
 use std::alloc::Global;
 
-fn addresses(reader: &mut Reader, alloc: Global) -> Result<Addresses, ReadError>
+/// The addresses of a group, which end its line.
+pub(crate) fn addresses(reader: &mut Reader, alloc: Global) -> Result<Addresses, ReadError>
     ensures { Takes (λ v. v) result reader.new.rest.now (text_list_at MOST_ADDRESSES (text_form 1 LONGEST_NAME End.Line) reader.old.rest.now) }
 {
     let addresses = reader.text_list(alloc, MOST_ADDRESSES as u32, End::Line)?;

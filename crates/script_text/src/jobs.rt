@@ -90,7 +90,7 @@ fn zone(reader: &mut Reader, alloc: Global, end: End) -> Result<ZoneText, ReadEr
 
 /// The spec of a job, which ends its line.
 #[tactic(auto, unfolding(crate::specs::Lines::spec_at))]
-fn spec(reader: &mut Reader, alloc: Global) -> Result<JobSpec, ReadError>
+pub(crate) fn spec(reader: &mut Reader, alloc: Global) -> Result<JobSpec, ReadError>
     ensures { Takes (λ s. s) result reader.new.rest.now (spec_at reader.old.rest.now) }
 {
     let group = group(reader, End::Space)?;

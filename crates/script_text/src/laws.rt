@@ -1,6 +1,7 @@
 //! The laws of lines.
 ghost use Rattle.job_events.specs.declared.cluster.ClusterEvent.{ClusterEvent};
 ghost use Rattle.script_text.specs.Laws.{NoLineBeginsAnother, EachEventHasOneLine, BoundsAre};
+ghost use Rattle.script_text.specs.Manage.{ManageLinesAreWords};
 
 use job_events::ClusterEvent;
 use line_grammar::laws::law_no_text_begins_another;
@@ -15,6 +16,11 @@ pub fn law_no_line_begins_another()
 /// Each event has exactly one line.
 pub fn law_one_line()
     ensures { EachEventHasOneLine }
+{}
+
+/// Each management line has at most one text, its words.
+pub fn law_management_lines()
+    ensures { ManageLinesAreWords }
 {}
 
 /// The bounds that lines cite as numbers.

@@ -10,6 +10,9 @@ use crate::faults::{LineError, LineFault};
 use crate::groups::{addgroup, setgroup};
 use crate::jobs::{addjob, dropjob, fire, setjob, showlog, startjob, stopjob};
 use crate::nodes::{ask, scan, start, step, stop, turn};
+use crate::registrations::{reg, sweep, unreg};
+use crate::results::{back, clean, lost, monitor};
+use crate::sendings::{sent, take};
 use job_events::ClusterEvent;
 use line_grammar::laws::law_grammar;
 use line_grammar::{ReadError, Reader};
@@ -34,6 +37,15 @@ fn any(reader: &mut Reader, alloc: Global) -> Result<ClusterEvent, ReadError>
         Command::Scan => scan(reader),
         Command::Step => step(reader),
         Command::Turn => turn(reader),
+        Command::Take => take(reader),
+        Command::Sent => sent(reader, alloc),
+        Command::Back => back(reader, alloc),
+        Command::Register => reg(reader, alloc),
+        Command::Unregister => unreg(reader, alloc),
+        Command::Sweep => sweep(reader),
+        Command::Monitor => monitor(reader),
+        Command::Lost => lost(reader),
+        Command::Clean => clean(reader),
         Command::ShowLog => showlog(reader),
         Command::Reopen => Ok(ClusterEvent::Reopen),
     }
@@ -51,7 +63,7 @@ fn column_behind(bytes: usize) -> u32
 }
 
 /// The fault where so many bytes are left.
-fn fault(len: usize, left: usize) -> LineError
+pub(crate) fn fault(len: usize, left: usize) -> LineError
     requires { left ≤ len }
     ensures { result ≡ LineError.Bad (record { column = min (len - left + 1) (2 ^ 32 - 1) }) }
 {

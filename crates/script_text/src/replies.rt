@@ -1,14 +1,16 @@
 //! The texts of replies and of the report.
-ghost use Rattle.std.specs.Prelude.{◌≡◌, ◌∷◌, ◌++◌, IfOk, OnOk};
-ghost use Rattle.script_text.specs.Replies.{optional_word, opened_word, opened_words, ticket_words, refusal_text, shown_log, shown_work, shown_trigger, shown_result, reply_words, reply_text, report_text};
+ghost use Rattle.std.specs.Prelude.{◌≡◌, ◌∷◌, ◌++◌, length, codes, IfOk, OnOk};
+ghost use Rattle.script_text.specs.Replies.{optional_word, opened_word, opened_words, ticket_words, child_words, refusal_text, shown_log, shown_work, shown_trigger, shown_result, reply_words, reply_text, report_text};
 ghost use Rattle.std.specs.List.{flat_map};
 ghost use Rattle.line_grammar.specs.Writing.{spaced_number};
 ghost use Rattle.job_values.specs.Words.{case_text};
+ghost use Rattle.script_text.specs.Spelling.{spaced_code};
 
-use crate::writing::{put_number, put_text, put_word};
-use job_events::{ClusterRefusal, ClusterReply, FiredTicket, Opened, Report, ShownLog};
+use crate::orders::put_order;
+use crate::writing::{put_code, put_number, put_text, put_word};
+use job_events::{ClusterRefusal, ClusterReply, FiredChild, FiredTicket, Opened, Report, ShownLog};
 use job_values::{Case, JobId, Moment, NoMemory, Seq};
-use line_grammar::{write_byte, write_optional, write_signed, write_word};
+use line_grammar::{write_byte, write_optional, write_word};
 use std::alloc::Global;
 
 fn put_optional(out: &mut Vec<u8>, moment: Option<Moment>) -> Result<(), NoMemory>
@@ -56,6 +58,40 @@ fn put_tickets(out: &mut Vec<u8>, tickets: &[FiredTicket]) -> Result<(), NoMemor
     Ok(())
 }
 
+/// The tickets that a turn took.
+fn put_fired(out: &mut Vec<u8>, tickets: &[FiredTicket]) -> Result<(), NoMemory>
+    ensures { OnOk result (out.new.items ≡ out.old.items ++ (codes "fired" ++ spaced_number (length tickets.now) ++ flat_map ticket_words tickets.now)) }
+{
+    put_count(out, "fired", tickets.len() as u64)?;
+    put_tickets(out, tickets)
+}
+
+fn put_child(out: &mut Vec<u8>, child: &FiredChild) -> Result<(), NoMemory>
+    ensures { OnOk result (out.new.items ≡ out.old.items ++ child_words child.now) }
+{
+    put_number(out, u64::from(child.job.get()))?;
+    put_all_opened(out, child.opened.as_slice())
+}
+
+fn put_children(out: &mut Vec<u8>, children: &[FiredChild]) -> Result<(), NoMemory>
+    ensures { OnOk result (out.new.items ≡ out.old.items ++ flat_map child_words children.now) }
+{
+    for child in children {
+        put_child(out, child)?;
+    }
+    Ok(())
+}
+
+/// That a log is settled: its code, and the children that it fired.
+fn put_settled(out: &mut Vec<u8>, code: i32, children: &[FiredChild]) -> Result<(), NoMemory>
+    ensures { OnOk result (out.new.items ≡ out.old.items ++ (codes "settled" ++ spaced_code code ++ spaced_number (length children.now) ++ flat_map child_words children.now)) }
+{
+    write_word(out, "settled")?;
+    put_code(out, code)?;
+    put_number(out, children.len() as u64)?;
+    put_children(out, children)
+}
+
 fn put_refusal(out: &mut Vec<u8>, refusal: ClusterRefusal) -> Result<(), NoMemory>
     ensures { OnOk result (out.new.items ≡ out.old.items ++ refusal_text refusal) }
 {
@@ -68,6 +104,14 @@ fn put_refusal(out: &mut Vec<u8>, refusal: ClusterRefusal) -> Result<(), NoMemor
         }
         ClusterRefusal::Busy(owner) => put_count(out, "Busy", u64::from(owner.get())),
         ClusterRefusal::NotScanning => write_word(out, "NotScanning"),
+        ClusterRefusal::Empty => write_word(out, "Empty"),
+        ClusterRefusal::BadCode => write_word(out, "BadCode"),
+        ClusterRefusal::AlreadySent(code) => put_coded(out, "AlreadySent", code),
+        ClusterRefusal::NotTaken => write_word(out, "NotTaken"),
+        ClusterRefusal::WrongAddress => write_word(out, "WrongAddress"),
+        ClusterRefusal::Repeat(code) => put_coded(out, "Repeat", code),
+        ClusterRefusal::BadRegistry => write_word(out, "BadRegistry"),
+        ClusterRefusal::NothingDone => write_word(out, "NothingDone"),
         ClusterRefusal::NoGroup => write_word(out, "NoGroup"),
         ClusterRefusal::NoJob => write_word(out, "NoJob"),
         ClusterRefusal::NoLog => write_word(out, "NoLog"),
@@ -130,8 +174,7 @@ fn put_shown_trigger(out: &mut Vec<u8>, log: &ShownLog) -> Result<(), NoMemory>
     put_number(out, u64::from(log.retries.get()))?;
     put_word(out, log.kind.text())?;
     put_number(out, log.time.get())?;
-    write_byte(out, b' ')?;
-    write_signed(out, log.trigger_code)
+    put_code(out, log.trigger_code)
 }
 
 /// Its result, and its mark.
@@ -139,19 +182,27 @@ fn put_shown_result(out: &mut Vec<u8>, log: &ShownLog) -> Result<(), NoMemory>
     ensures { OnOk result (out.new.items ≡ out.old.items ++ shown_result log.now) }
 {
     put_optional(out, log.result_time)?;
-    write_byte(out, b' ')?;
-    write_signed(out, log.result_code)?;
+    put_code(out, log.result_code)?;
     put_text(out, &log.result_text)?;
     put_word(out, if log.marked { "marked" } else { "unmarked" })
 }
 
 fn put_shown(out: &mut Vec<u8>, log: &ShownLog) -> Result<(), NoMemory>
-    ensures { OnOk result (out.new.items ≡ out.old.items ++ (shown_log log.now ++ shown_work log.now ++ shown_trigger log.now ++ shown_result log.now)) }
+    ensures { OnOk result (out.new.items ≡ out.old.items ++ (codes "log" ++ (shown_log log.now ++ shown_work log.now ++ shown_trigger log.now ++ shown_result log.now))) }
 {
+    write_word(out, "log")?;
     put_shown_log(out, log)?;
     put_shown_work(out, log)?;
     put_shown_trigger(out, log)?;
     put_shown_result(out, log)
+}
+
+/// A word and a code.
+fn put_coded(out: &mut Vec<u8>, word: &str, code: i32) -> Result<(), NoMemory>
+    ensures { OnOk result (out.new.items ≡ out.old.items ++ (word.now ++ spaced_code code)) }
+{
+    write_word(out, word)?;
+    put_code(out, code)
 }
 
 /// A word and a number.
@@ -197,18 +248,24 @@ fn put_reply(out: &mut Vec<u8>, reply: &ClusterReply) -> Result<(), NoMemory>
             put_look(out, *job, *case, *due, *next, *put)?;
             put_all_opened(out, opened.as_slice())
         }
-        ClusterReply::Fired(tickets) => {
-            put_count(out, "fired", tickets.len() as u64)?;
-            put_tickets(out, tickets.as_slice())
-        }
+        ClusterReply::Fired(tickets) => put_fired(out, tickets.as_slice()),
         ClusterReply::Opened(opened) => {
             write_word(out, "opened")?;
             put_all_opened(out, opened.as_slice())
         }
-        ClusterReply::Shown(log) => {
-            write_word(out, "log")?;
-            put_shown(out, log)
+        ClusterReply::Took(order) => {
+            write_word(out, "took")?;
+            put_order(out, order)
         }
+        ClusterReply::Settled { code, children } => put_settled(out, *code, children.as_slice()),
+        ClusterReply::Swept(count) => put_count(out, "swept", *count),
+        ClusterReply::Marked { log, opened } => {
+            put_count(out, "marked", log.get())?;
+            put_all_opened(out, opened.as_slice())
+        }
+        ClusterReply::Lost(log) => put_count(out, "lost", log.get()),
+        ClusterReply::Cleaned(count) => put_count(out, "cleaned", *count),
+        ClusterReply::Shown(log) => put_shown(out, log),
         ClusterReply::Stopped { lost, ended } => put_counts(out, "stopped", *lost, *ended),
         ClusterReply::Reopened { lost, ended } => put_counts(out, "reopened", *lost, *ended),
         ClusterReply::Refused(refusal) => {

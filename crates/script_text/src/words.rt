@@ -1,18 +1,20 @@
 //! The words of lines, read as the types that they stand for.
-ghost use Rattle.job_values.specs.declared.limits.TheConstants.{LAST_ADMIN, LAST_MOMENT, LAST_LOG_ID, LAST_JOB_ID, LAST_SECONDS, LAST_RETRIES};
+ghost use Rattle.job_values.specs.declared.limits.TheConstants.{LAST_ADMIN, LAST_MOMENT, LAST_LOG_ID, LAST_LOG_MOMENT, LAST_JOB_ID, LAST_SECONDS, LAST_RETRIES};
+ghost use Rattle.script_text.specs.declared.limits.TheConstants.{LAST_WORD};
 ghost use Rattle.std.specs.Prelude.{◌≡◌, [], ◌∷◌, codes};
 ghost use Rattle.line_grammar.specs.Reading.{Takes};
 ghost use Rattle.line_grammar.specs.Numbers.{number_at};
 ghost use Rattle.line_grammar.specs.Choices.{words_at};
 ghost use Rattle.line_grammar.specs.Dashes.{number_form};
-ghost use Rattle.script_text.specs.Words.{group_kind_at, schedule_kind_at, misfire_at, route_at, route_words, block_at};
+ghost use Rattle.script_text.specs.Words.{pool_kind_at, group_kind_at, schedule_kind_at, misfire_at, route_at, route_words, block_at};
 
+use crate::limits::LAST_WORD;
 use job_values::limits::{
-    LAST_ADMIN, LAST_JOB_ID, LAST_LOG_ID, LAST_MOMENT, LAST_RETRIES, LAST_SECONDS,
+    LAST_ADMIN, LAST_JOB_ID, LAST_LOG_ID, LAST_LOG_MOMENT, LAST_MOMENT, LAST_RETRIES, LAST_SECONDS,
 };
 use job_values::{
-    AdminNo, Block, GroupId, GroupKind, JobId, LogId, Misfire, Moment, Retries, Route,
-    ScheduleKind, Timeout,
+    AdminNo, Block, GroupId, GroupKind, JobId, LogId, LogMoment, Misfire, Moment, PoolKind,
+    Retries, Route, ScheduleKind, Timeout,
 };
 use line_grammar::{End, NumberForm, ReadError, Reader};
 
@@ -104,6 +106,41 @@ pub(crate) fn log(reader: &mut Reader, end: End) -> Result<LogId, ReadError>
     }
 }
 
+/// The moment of a log as its executor was told it.
+pub(crate) fn log_moment(reader: &mut Reader, end: End) -> Result<LogMoment, ReadError>
+    ensures { Takes (λ t. t) result reader.new.rest.now (number_at (number_form 0 LAST_LOG_MOMENT end) reader.old.rest.now) }
+{
+    let ms = reader.number(form(0, LAST_LOG_MOMENT, end))?;
+    match LogMoment::new(ms) {
+        Some(at) => Ok(at),
+        None => unreachable!(),
+    }
+}
+
+/// A word for a random choice.
+pub(crate) fn choice_word(reader: &mut Reader, end: End) -> Result<u64, ReadError>
+    ensures { Takes (λ t. t) result reader.new.rest.now (number_at (number_form 0 LAST_WORD end) reader.old.rest.now) }
+{
+    reader.number(form(0, LAST_WORD, end))
+}
+
+/// Which word of a pool.
+pub(crate) fn pool_kind_word(reader: &mut Reader) -> Result<usize, ReadError>
+    ensures { Takes (λ i. i) result reader.new.rest.now (words_at (codes "fast " ∷ codes "slow " ∷ []) reader.old.rest.now) }
+{
+    reader.choice(&["fast ", "slow "])
+}
+
+/// The pool of a word.
+pub(crate) fn pool_kind(word: usize) -> PoolKind
+    ensures { result ≡ pool_kind_at word }
+{
+    match word {
+        0 => PoolKind::Fast,
+        _ => PoolKind::Slow,
+    }
+}
+
 /// Which word of a group kind.
 pub(crate) fn group_kind_word(reader: &mut Reader) -> Result<usize, ReadError>
     ensures { Takes (λ i. i) result reader.new.rest.now (words_at (codes "auto " ∷ codes "manual " ∷ []) reader.old.rest.now) }
@@ -170,6 +207,7 @@ pub(crate) fn route_word(reader: &mut Reader) -> Result<usize, ReadError>
         "LEAST_RECENTLY_USED ",
         "FAILOVER ",
         "BUSYOVER ",
+        "SHARDING_BROADCAST ",
     ])
 }
 
@@ -186,7 +224,8 @@ pub(crate) fn route(word: usize) -> Route
         5 => Route::LeastFrequentlyUsed,
         6 => Route::LeastRecentlyUsed,
         7 => Route::Failover,
-        _ => Route::Busyover,
+        8 => Route::Busyover,
+        _ => Route::ShardingBroadcast,
     }
 }
 

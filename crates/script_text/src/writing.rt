@@ -1,5 +1,5 @@
 //! Events written as their lines.
-ghost use Rattle.job_values.specs.declared.limits.TheConstants.{LAST_JOB_ID, LONGEST_NAME, LONGEST_SCHEDULE_GIVEN};
+ghost use Rattle.job_values.specs.declared.limits.TheConstants.{LAST_JOB_ID, LONGEST_NAME, LONGEST_RESULT, LONGEST_SCHEDULE_GIVEN};
 ghost use Rattle.std.specs.Prelude.{◌≡◌, ◌∷◌, ◌++◌, IfOk, OnOk, decimal};
 ghost use Rattle.std.specs.List.{AllByRecursion};
 ghost use Rattle.line_grammar.specs.Dashes.{number_form};
@@ -7,18 +7,19 @@ ghost use Rattle.line_grammar.specs.Laws.{IsNumberOf, IsTextOf};
 ghost use Rattle.line_grammar.specs.Writing.{spaced_number, spaced_text, counted_texts, counted_numbers};
 ghost use Rattle.line_grammar.specs.Texts.{text_form};
 ghost use Rattle.job_values.specs.Words.{group_kind_text};
-ghost use Rattle.job_events.specs.declared.cluster.ClusterEvent.TheVariants.{TriggerJob};
+ghost use Rattle.job_events.specs.declared.cluster.ClusterEvent.TheVariants.{AddGroup, SetGroup, AddJob, TriggerJob, Take, Sent, Registry, RegistryRemove};
 ghost use Rattle.script_text.specs.Lines.{IsLine};
-ghost use Rattle.script_text.specs.Spelling.{spelling, event_words, spec_text, trigger_text, work_text, zone_text, IsBuilt, IsAdmin, IsMoment, IsId, IsWithin, SpecFits, WorkFits, AddressesFit};
+ghost use Rattle.script_text.specs.Spelling.{spelling, event_words, spec_text, trigger_text, work_text, zone_text, item_text, spaced_code, IsAdmin, IsMoment, IsId, IsRegistryText, IsWithin, CodeFits, ItemFits, SpecFits, WorkFits, AddressesFit};
 
 use crate::laws::law_one_line;
 use job_events::ClusterEvent;
 use job_values::{
-    Addresses, AdminNo, BoundedText, GroupKind, JobId, JobSpec, Moment, NoMemory, ParamText, Seq,
-    ZoneText,
+    Address, Addresses, AdminNo, AppName, BoundedText, CallbackItem, GroupId, GroupKind, JobId,
+    JobSpec, LogId, Moment, NoMemory, ParamText, PoolKind, RegistryText, Seq, ZoneText,
 };
 use line_grammar::{
-    End, write_bounded, write_byte, write_number, write_optional, write_texts, write_word,
+    End, write_bounded, write_byte, write_number, write_optional, write_signed, write_texts,
+    write_word,
 };
 use std::alloc::Global;
 
@@ -28,6 +29,15 @@ pub(crate) fn put_number(out: &mut Vec<u8>, number: u64) -> Result<(), NoMemory>
 {
     write_byte(out, b' ')?;
     write_number(out, number)
+}
+
+/// A signed code behind a space.
+pub(crate) fn put_code(out: &mut Vec<u8>, code: i32) -> Result<(), NoMemory>
+    ensures written { OnOk result (out.new.items ≡ out.old.items ++ spaced_code code) }
+    ensures within { CodeFits code }
+{
+    write_byte(out, b' ')?;
+    write_signed(out, code)
 }
 
 /// A fixed word behind a space.
@@ -157,6 +167,45 @@ fn put_group(out: &mut Vec<u8>, kind: GroupKind, addresses: &Addresses) -> Resul
     write_texts(out, addresses.as_slice())
 }
 
+/// A group that is added.
+fn put_new_group(
+    out: &mut Vec<u8>,
+    app: &AppName,
+    kind: GroupKind,
+    addresses: &Addresses,
+) -> Result<(), NoMemory>
+    ensures written { OnOk result (out.new.items ≡ out.old.items ++ event_words (AddGroup app.now kind addresses.now)) }
+    ensures within { OnOk result (IsWithin (AddGroup app.now kind addresses.now)) }
+{
+    write_word(out, "addgroup ")?;
+    write_bounded(out, app)?;
+    put_group(out, kind, addresses)
+}
+
+/// Another kind and other addresses of a group.
+fn put_other_group(
+    out: &mut Vec<u8>,
+    group: GroupId,
+    kind: GroupKind,
+    addresses: &Addresses,
+) -> Result<(), NoMemory>
+    ensures written { OnOk result (out.new.items ≡ out.old.items ++ event_words (SetGroup group kind addresses.now)) }
+    ensures within { OnOk result (IsWithin (SetGroup group kind addresses.now)) }
+{
+    write_word(out, "setgroup ")?;
+    write_number(out, u64::from(group.get()))?;
+    put_group(out, kind, addresses)
+}
+
+/// A job that is added.
+fn put_new_job(out: &mut Vec<u8>, spec: &JobSpec) -> Result<(), NoMemory>
+    ensures written { OnOk result (out.new.items ≡ out.old.items ++ event_words (AddJob spec.now)) }
+    ensures within { OnOk result (IsWithin (AddJob spec.now)) }
+{
+    write_word(out, "addjob ")?;
+    put_spec(out, spec)
+}
+
 /// A firing by hand.
 fn put_fire(
     out: &mut Vec<u8>,
@@ -174,6 +223,97 @@ fn put_fire(
     write_optional(out, param)
 }
 
+/// A first word and a moment.
+fn put_at(out: &mut Vec<u8>, word: &str, at: Moment) -> Result<(), NoMemory>
+    ensures written { OnOk result (out.new.items ≡ out.old.items ++ (word.now ++ decimal at)) }
+    ensures within { IsMoment at }
+{
+    write_word(out, word)?;
+    write_number(out, at.get())
+}
+
+/// The result of a log.
+fn put_item(out: &mut Vec<u8>, item: &CallbackItem) -> Result<(), NoMemory>
+    ensures written { OnOk result (out.new.items ≡ out.old.items ++ item_text item.now) }
+    ensures within { OnOk result (ItemFits item.now) }
+{
+    put_number(out, item.log.get())?;
+    put_number(out, item.log_moment.get())?;
+    put_code(out, item.code)?;
+    put_text(out, &item.msg)
+}
+
+/// A registration.
+fn put_registry(
+    out: &mut Vec<u8>,
+    at: Moment,
+    group: &RegistryText,
+    key: &RegistryText,
+    value: &RegistryText,
+) -> Result<(), NoMemory>
+    ensures written { OnOk result (out.new.items ≡ out.old.items ++ event_words (Registry at group.now key.now value.now)) }
+    ensures within { OnOk result (IsWithin (Registry at group.now key.now value.now)) }
+{
+    put_at(out, "reg ", at)?;
+    put_text(out, group)?;
+    put_text(out, key)?;
+    put_text(out, value)
+}
+
+/// The end of a registration.
+fn put_removal(
+    out: &mut Vec<u8>,
+    group: &RegistryText,
+    key: &RegistryText,
+    value: &RegistryText,
+) -> Result<(), NoMemory>
+    ensures written { OnOk result (out.new.items ≡ out.old.items ++ event_words (RegistryRemove group.now key.now value.now)) }
+    ensures within { OnOk result (IsWithin (RegistryRemove group.now key.now value.now)) }
+{
+    write_word(out, "unreg ")?;
+    write_bounded(out, group)?;
+    put_text(out, key)?;
+    put_text(out, value)
+}
+
+/// A take from a pool.
+fn put_take(
+    out: &mut Vec<u8>,
+    admin: AdminNo,
+    pool: PoolKind,
+    at: Moment,
+    word: u64,
+) -> Result<(), NoMemory>
+    ensures written { OnOk result (out.new.items ≡ out.old.items ++ event_words (Take admin pool at word)) }
+    ensures within { OnOk result (IsWithin (Take admin pool at word)) }
+{
+    put_admin(out, "take ", admin)?;
+    put_word(out, pool.text())?;
+    put_number(out, at.get())?;
+    put_number(out, word)
+}
+
+/// A sending, which began and ended at these moments.
+fn put_sent(
+    out: &mut Vec<u8>,
+    log: LogId,
+    address: &Option<Address>,
+    code: i32,
+    start: Moment,
+    end: Moment,
+) -> Result<(), NoMemory>
+    ensures written { OnOk result (out.new.items ≡ out.old.items ++ event_words (Sent log address.now code start end)) }
+    ensures within { OnOk result (IsWithin (Sent log address.now code start end)) }
+{
+    write_word(out, "sent ")?;
+    write_number(out, log.get())?;
+    write_byte(out, b' ')?;
+    write_optional(out, address)?;
+    put_code(out, code)?;
+    put_number(out, start.get())?;
+    put_number(out, end.get())
+}
+
 /// An event behind the bytes that are there, up to its LF.
 fn put_event(out: &mut Vec<u8>, event: &ClusterEvent) -> Result<(), NoMemory>
     ensures written { OnOk result (out.new.items ≡ out.old.items ++ event_words event.now) }
@@ -183,20 +323,11 @@ fn put_event(out: &mut Vec<u8>, event: &ClusterEvent) -> Result<(), NoMemory>
         ClusterEvent::NodeStart(admin) => put_admin(out, "start ", *admin),
         ClusterEvent::NodeStop(admin) => put_admin(out, "stop ", *admin),
         ClusterEvent::NodeAsk(admin) => put_admin(out, "ask ", *admin),
-        ClusterEvent::AddGroup(app, kind, addresses) => {
-            write_word(out, "addgroup ")?;
-            write_bounded(out, app)?;
-            put_group(out, *kind, addresses)
-        }
+        ClusterEvent::AddGroup(app, kind, addresses) => put_new_group(out, app, *kind, addresses),
         ClusterEvent::SetGroup(group, kind, addresses) => {
-            write_word(out, "setgroup ")?;
-            write_number(out, u64::from(group.get()))?;
-            put_group(out, *kind, addresses)
+            put_other_group(out, *group, *kind, addresses)
         }
-        ClusterEvent::AddJob(spec) => {
-            write_word(out, "addjob ")?;
-            put_spec(out, spec)
-        }
+        ClusterEvent::AddJob(spec) => put_new_job(out, spec),
         ClusterEvent::UpdateJob(at, job, spec) => {
             put_job_at(out, "setjob ", *at, *job)?;
             write_byte(out, b' ')?;
@@ -209,6 +340,20 @@ fn put_event(out: &mut Vec<u8>, event: &ClusterEvent) -> Result<(), NoMemory>
         ClusterEvent::ScanBegin(admin, at) => put_admin_at(out, "scan ", *admin, *at),
         ClusterEvent::ScanStep(admin) => put_admin(out, "step ", *admin),
         ClusterEvent::Turn(admin, at) => put_admin_at(out, "turn ", *admin, *at),
+        ClusterEvent::Take(admin, pool, at, word) => put_take(out, *admin, *pool, *at, *word),
+        ClusterEvent::Sent(log, address, code, start, end) => {
+            put_sent(out, *log, address, *code, *start, *end)
+        }
+        ClusterEvent::Callback(admin, at, item) => {
+            put_admin_at(out, "back ", *admin, *at)?;
+            put_item(out, item)
+        }
+        ClusterEvent::Registry(at, group, key, value) => put_registry(out, *at, group, key, value),
+        ClusterEvent::RegistryRemove(group, key, value) => put_removal(out, group, key, value),
+        ClusterEvent::Sweep(at) => put_at(out, "sweep ", *at),
+        ClusterEvent::Monitor(admin, at) => put_admin_at(out, "monitor ", *admin, *at),
+        ClusterEvent::Lost(at) => put_at(out, "lost ", *at),
+        ClusterEvent::Clean(at) => put_at(out, "clean ", *at),
         ClusterEvent::ReadLog(log) => {
             write_word(out, "showlog ")?;
             write_number(out, log.get())
@@ -220,8 +365,8 @@ fn put_event(out: &mut Vec<u8>, event: &ClusterEvent) -> Result<(), NoMemory>
 /// The one line of an event, with its LF.
 pub fn write_line(alloc: Global, event: &ClusterEvent) -> Result<Seq<u8>, NoMemory>
     ensures spelled { IfOk result (λ bytes. bytes ≡ spelling event.now) }
-    // The line of the event, and no other bytes are one; of what is not built there is none.
-    ensures line { IfOk result (λ bytes. IsBuilt event.now → IsLine event.now bytes) }
+    // The line of the event, and no other bytes are one.
+    ensures line { IfOk result (λ bytes. IsLine event.now bytes) }
     // The values of an event are always within the bounds of a line.
     ensures within { OnOk result (IsWithin event.now) }
 {

@@ -1,6 +1,6 @@
 -- Dropping the old logs one after another leaves what a clean leaves.
-use Rattle.std.proofs.Common.{◌≡◌, ℕ, ◌<◌, ◌≤◌, List, [], ◌∷◌, Bool, true, false, cond, eqb, not, map, length, refl, sym, ap, ◌∙◌, arith}
-use Rattle.std.specs.List.{filter, count_by}
+use Rattle.std.proofs.Common.{◌≡◌, ℕ, ◌<◌, ◌≤◌, List, [], ◌∷◌, Bool, true, false, cond, eqb, not, map, length, refl, ap, ◌∙◌, arith}
+use Rattle.std.specs.List.{filter}
 use Rattle.std.proofs.lemmas.Bool.Decides.{nat_tests}
 use Rattle.std.proofs.lemmas.List.{length-map}
 use Rattle.std.proofs.lemmas.List.Sums.{length-filter}
@@ -12,7 +12,7 @@ use Rattle.job_records.specs.Rules.{KeepsRules}
 use Rattle.job_records.specs.Tables.{Tables}
 use Rattle.job_records.proofs.Keeping.{keeps_drop_log}
 use Rattle.rising_rows.proofs.PutLemmas.{rising-filter, rising-lower}
-use Rattle.settle_log.specs.Settling.{is_old, logs_left}
+use Rattle.settle_log.specs.Settling.{is_old}
 use Rattle.settle_log.specs.Results.{drop_of, Cleans}
 
 -- logs without these, one after another

@@ -1,5 +1,5 @@
 -- What holds of results in other words.
-use Rattle.std.specs.Prelude.{◌≡◌, ℕ, ◌+◌, ◌-◌, ◌<◌, ℤ, pos, List, [], Some, Bool, true, false}
+use Rattle.std.specs.Prelude.{◌≡◌, ℕ, ◌+◌, ◌<◌, ℤ, List, [], Some, true, false}
 use Rattle.job_values.specs.declared.limits.TheConstants.{LOST_AFTER, SUCCESS}
 use Rattle.job_records.specs.declared.job.Job.{Job}
 use Rattle.job_records.specs.declared.log.Log.{Log}

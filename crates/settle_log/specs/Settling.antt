@@ -1,10 +1,11 @@
 -- What becomes of the rows of logs: sent, ended, settled, marked, lost, cleaned.
-use Rattle.std.specs.Prelude.{ℕ, ◌+◌, ℤ, pos, List, codes, bytes_eq, map, filter, find, Bool, true, false, not, ◌&&◌, ◌||◌, nat_lt, nat_le, Option, Some, None, if◌then◌else◌}
+use Rattle.std.specs.Prelude.{ℕ, ◌+◌, ℤ, pos, List, codes, bytes_eq, map, filter, find, Bool, true, false, not, ◌&&◌, nat_lt, nat_le, Option, Some, None, if◌then◌else◌}
 use Rattle.std.specs.Ordering.{int_eq}
 use Rattle.std.specs.List.{list_any}
-use Rattle.job_values.specs.declared.limits.TheConstants.{FAILURE, LOST_AFTER, SUCCESS}
+use Rattle.job_values.specs.declared.limits.TheConstants.{FAILURE, LOST_AFTER}
 use Rattle.job_records.specs.declared.log.Log.{Log}
 use Rattle.job_records.specs.declared.registry.RegistryRow.{RegistryRow}
+pub use Rattle.job_records.specs.LogClasses.{is_failed, is_unmarked, is_awaited}
 use Rattle.job_records.specs.Rows.{row_with, changed}
 
 -- the row of the log with this id, if it is there
@@ -39,16 +40,6 @@ settled_log at code text log = record log { result_time = Some at; result_code =
 abbrev pub is_settled : Log → Bool
 is_settled log = not (int_eq log.result_code (pos 0))
 
--- a log is failed where it is neither under way nor settled with success
-abbrev pub is_failed : Log → Bool
-is_failed log =
-    not ((int_eq log.trigger_code (pos 0) || int_eq log.trigger_code SUCCESS) && int_eq log.result_code (pos 0))
-    && not (int_eq log.result_code SUCCESS)
-
--- a failed log that no monitor chose yet
-abbrev pub is_unmarked : Log → Bool
-is_unmarked log = is_failed log && not log.marked
-
 -- the log that a monitor chooses: the first of these
 abbrev pub first_failed : List Log → Option Log
 first_failed logs = find is_unmarked logs
@@ -66,10 +57,6 @@ logs_marked (Some log) logs = log_changed log.id marked_log logs
 abbrev pub is_unregistered : List RegistryRow → Option (List ℕ) → Bool
 is_unregistered rows None = false
 is_unregistered rows (Some address) = not (list_any (λ row. bytes_eq row.value address) rows)
-
--- a log is awaited where it was sent with success and has no result
-abbrev pub is_awaited : Log → Bool
-is_awaited log = int_eq log.trigger_code SUCCESS && int_eq log.result_code (pos 0)
 
 -- a log is lost at a moment where it is awaited, from ten minutes ago or before, and its address is no registration's
 abbrev pub is_lost : ℕ → List RegistryRow → Log → Bool

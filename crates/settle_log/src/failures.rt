@@ -1,11 +1,11 @@
 //! Logs that are ended, settled or failed, and the failed one that is looked at next.
 ghost use Rattle.std.specs.Prelude.{◌≡◌, IfOk};
 ghost use Rattle.std.specs.Option.{option_copied};
-ghost use Rattle.settle_log.specs.Settling.{ended_log, is_settled, is_failed, is_unmarked, first_failed, marked_log};
+ghost use Rattle.settle_log.specs.Settling.{ended_log, is_settled, is_failed, first_failed, marked_log};
 
 use job_records::{Log, Records};
 use job_values::NoMemory;
-use job_values::limits::{FAILURE, SUCCESS};
+use job_values::limits::FAILURE;
 use std::alloc::Global;
 
 /// A log with the trigger code of a stop.
@@ -27,22 +27,17 @@ pub fn settled(log: &Log) -> bool
 pub fn failed(log: &Log) -> bool
     ensures { result ≡ is_failed log.now }
 {
-    let under_way = (log.trigger_code == 0 || log.trigger_code == SUCCESS) && log.result_code == 0;
-    !under_way && log.result_code != SUCCESS
+    log.is_failed()
 }
 
-/// Whether a log is failed and was not looked at as a failed one.
-fn unmarked(log: &Log) -> bool
-    ensures { result ≡ is_unmarked log.now }
-{
-    failed(log) && !log.marked
-}
-
-/// The first failed log that was not looked at: one pass over the logs.
+/// The first failed log that was not looked at: the first of the index, and a binary search.
 pub fn first_failed(records: &Records) -> Option<&Log>
     ensures { option_copied result ≡ first_failed records.now.kept.logs }
 {
-    records.logs().iter().find(|log| unmarked(log))
+    match records.log_index().least_failed() {
+        Some(id) => records.log(id),
+        None => None,
+    }
 }
 
 /// The row of a log that was looked at as a failed one.

@@ -13,6 +13,6 @@ pub mod retry;
 pub use children::children_of;
 pub use cleaning::{clean, old};
 pub use failures::{ended, failed, first_failed, mark, settled};
-pub use losses::{awaited, lost, lost_of, lost_row};
+pub use losses::{awaited, first_lost, lost, lost_of, lost_row};
 pub use results::{SettleFault, is_positive, settle};
 pub use retry::{Firing, retry_of};

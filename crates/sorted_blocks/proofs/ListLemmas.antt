@@ -6,7 +6,7 @@ use Rattle.std.specs.List.{All, AllPairs, list_all, list_any, filter, find, inse
 use Rattle.std.specs.Option.{option_or}
 use Rattle.std.specs.Ordering.{match_ordering}
 use Rattle.std.proofs.Math.Seq.{split_at}
-use Rattle.std.proofs.lemmas.List.{append_assoc, take_more_set, take-set, drop-set-lt, length-append, length-take-le, length-drop, take_rest}
+use Rattle.std.proofs.lemmas.List.{append_assoc, drop_more, take_more_set, take-set, drop-set-lt, length-append, length-take-le, length-drop, take_rest}
 use Rattle.std.proofs.lemmas.List.Concat.{flat_map-append}
 use Rattle.std.proofs.lemmas.List.Folds.{list_any-append, list_any_none, find-append}
 use Rattle.std.proofs.lemmas.List.Elements.{All-nil, All-cons, All-head, All-tail, All-append, All-take, All-drop, filter-append}
@@ -169,3 +169,21 @@ appended-rest {X = X} new front whole from ok is done none =
     ∙ ap (λ (b : Bool). cond b (front ++ take (length whole - from) (drop from whole)) front) done
     ∙ ap (λ (xs : List X). xs ++ take (length whole - from) (drop from whole)) none
     ∙ take_rest whole from
+
+-- the element at a place of two lists, one behind the other
+pub get-left : {X : Type 0} (xs ys : List X) (place : ℕ) → place < length xs → slice_get (xs ++ ys) place ≡ slice_get xs place
+get-left [] ys place lt = absurd (omega arith)
+get-left (x ∷ xs) ys zero lt = refl
+get-left (x ∷ xs) ys (suc place) lt = get-left xs ys place (omega arith)
+
+pub get-right : {X : Type 0} (xs ys : List X) (place : ℕ) → length xs ≤ place → slice_get (xs ++ ys) place ≡ slice_get ys (place - length xs)
+get-right [] ys place le = ap (λ (n : ℕ). slice_get ys n) (omega arith)
+get-right (x ∷ xs) ys zero le = absurd (omega arith)
+get-right (x ∷ xs) ys (suc place) le =
+    let same : place - length xs ≡ suc place - suc (length xs) = omega arith in
+    get-right xs ys place (omega arith) ∙ ap (λ (n : ℕ). slice_get ys n) same
+
+-- the lists from a place on are the one there and those behind it
+pub joined-from : {X : Type 0} (blocks : List (List X)) (at : ℕ) (block : List X) → at < length blocks → block ≡ get_or blocks at block → joined (drop at blocks) ≡ block ++ joined (drop (at + 1) blocks)
+joined-from {X = X} blocks at block within is =
+    ap joined (drop_more blocks at block within) ∙ ap (λ (b : List X). b ++ joined (drop (at + 1) blocks)) (sym is)

@@ -31,6 +31,20 @@ pub(crate) fn first_key(blocks: &[KeyBlock]) -> Option<Key>
     }
 }
 
+/// The key at a place, counted from 0: the blocks before it are passed one after another.
+pub(crate) fn key_at(blocks: &[KeyBlock], place: usize) -> Option<Key>
+    ensures { result ≡ slice_get (joined blocks.now) place }
+{
+    let mut left = place;
+    for block in blocks {
+        if left < block.len() {
+            return block.get(left);
+        }
+        left -= block.len();
+    }
+    None
+}
+
 /// Whether one of the blocks has a key.
 pub(crate) fn contains_key(blocks: &[KeyBlock], key: Key) -> bool
     requires filled { All IsFilled blocks.now }

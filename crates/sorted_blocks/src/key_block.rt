@@ -66,6 +66,13 @@ impl KeyBlock {
         self.keys.as_slice().first().copied()
     }
 
+    /// The key at a place, counted from 0.
+    pub(crate) fn get(&self, place: usize) -> Option<Key>
+        ensures { result ≡ slice_get self.now place }
+    {
+        self.keys.as_slice().get(place).copied()
+    }
+
     /// Whether all keys are below this one: the last one is looked at.
     pub(crate) fn is_below(&self, key: Key) -> bool
         ensures { result ≡ list_all (λ other. is_lt (key_order key other)) self.now }

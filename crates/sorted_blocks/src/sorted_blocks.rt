@@ -2,7 +2,7 @@
 ghost use Rattle.std.specs.Prelude.{◌≡◌, ◌+◌, ◌<◌, ◌≤◌, ◌==◌, [], length, slice_get, OnOk};
 ghost use Rattle.sorted_blocks.specs.Keys.{has_key, key_above, with_key, without_key, Rises};
 
-use super::blocks::{contains_key, drop_key, fill_spare, first_key, next_key, put_key};
+use super::blocks::{contains_key, drop_key, fill_spare, first_key, key_at, next_key, put_key};
 use super::key::Key;
 use super::key_block::{HALF, KeyBlock};
 use job_values::NoMemory;
@@ -64,6 +64,15 @@ impl SortedBlocks {
         ensures rising { Rises self.now.keys }
     {
         first_key(self.blocks.as_slice())
+    }
+
+    /// The key at a place, counted from 0; None exactly past the end. It passes the blocks before that
+    /// place, of which each has up to 255 keys, one after another.
+    pub fn get(&self, place: usize) -> Option<Key>
+        ensures key { result ≡ slice_get self.now.keys place }
+        ensures rising { Rises self.now.keys }
+    {
+        key_at(self.blocks.as_slice(), place)
     }
 
     /// The first key above this one, which need not be there; None exactly where there is none. With

@@ -10,6 +10,7 @@
 //! | `<<` | bytes that are read, without a line feed behind them |
 //! | `> ` | a line that must be written |
 //! | `<*N `, `>*N ` | N such lines, from 1 to N, each with its number where a `%` stands |
+//! | `<*M-N `, `>*M-N ` | the same from M to N |
 //! | `! ` | the status; without such a line it is 0 |
 #![tactic(auto)]
 
@@ -58,13 +59,19 @@ fn put_numbered(text: &mut Vec<u8>, line: &[u8], at: u32) -> io::Result<()> {
     Ok(())
 }
 
-/// Puts as many lines behind others as the number in front of the first space says.
+/// Puts numbered lines behind others: as many as the number in front of the first space says, or from
+/// the first of two numbers with a dash between them to the second.
 fn put_counted(text: &mut Vec<u8>, counted: &[u8]) -> io::Result<()> {
     let mut parts = counted.splitn(2, |b| *b == b' ');
-    let count = number(parts.next().unwrap_or_default());
+    let mut ends = parts.next().unwrap_or_default().splitn(2, |b| *b == b'-');
     let line = parts.next().unwrap_or_default();
-    for at in 0..count {
-        put_numbered(text, line, at.saturating_add(1))?;
+    let first = number(ends.next().unwrap_or_default());
+    let (first, last) = match ends.next() {
+        Some(last) => (first, number(last)),
+        None => (1, first),
+    };
+    for at in first..last.saturating_add(1) {
+        put_numbered(text, line, at)?;
     }
     Ok(())
 }

@@ -1,4 +1,4 @@
-use Rattle.std.proofs.Common.{drop, arith, ap, length, length-drop, false}
+use Rattle.std.proofs.Common.{drop, arith, ap, length, length-drop}
 use Rattle.std.proofs.lemmas.Result.{err_from_is_err_and}
 use Rattle.http_reading.specs.BodyReads.{Behind}
 use Rattle.http_reading.specs.declared.plan.BodyPlan.TheVariants.{Sized}
@@ -25,7 +25,6 @@ returns-then-branch-clause-err g c =
 
 pub returns-clause-ok : goal.returns-clause-ok
 returns-clause-ok g c = record {
-  ended = false;
   draws = c.loop-link.invariant.0;
   inside = omega arith;
   is = part_is c.loop-link.bytes.items c.deref.result.now c.in_ok-body.body c.args.start c.args.count (omega arith) (omega arith) c.deref.ensures.value c.in_ok-body.ensures.ok;

@@ -3,13 +3,13 @@ use Rattle.httparse.specs.declared.InvalidChunkSize.{InvalidChunkSize}
 use Rattle.httparse.specs.Grammar.{ChunkLine, HasNoChunkLine, MayBecomeChunkLine}
 use Rattle.httparse.specs.Spans.{IsChunkLineAt}
 use Rattle.http_reading.specs.ChunkReads.{LineAt}
-use Rattle.http_reading.specs.Plans.{most_line}
+use Rattle.http_reading.specs.declared.plan.TheConstants.{MOST_LINE}
 use Rattle.http_reading.proofs.HeadLemmas.{complete_is, partial_is, not_complete}
 use Rattle.http_reading.proofs.LineLemmas.{line_at, line_inside, open_line, long_line, bad_line}
 use Rattle.http_reading.proofs.size_line.parse_size.Goals as goal
 
 pub overflow_add-result : goal.overflow_add-result
-overflow_add-result c = omega (arith, c.first_bad.ensures.inside, ap length c.front-text.ensures, length-take most_line c.args.bytes.now)
+overflow_add-result c = omega (arith, c.first_bad.ensures.inside, ap length c.front-text.ensures, length-take MOST_LINE c.args.bytes.now)
 
 pub returns-in_default-clause-err : goal.returns-in_default-clause-err
 returns-in_default-clause-err c =

@@ -1,7 +1,6 @@
-use Rattle.std.proofs.Common.{◌∙◌, List, ap, sym, refl, rules}
+use Rattle.std.proofs.Common.{◌∙◌, sym, refl, rules}
 use Rattle.cluster_history.specs.History.{accepted}
-use Rattle.cluster_history.specs.Pages.{page_in, page_limit}
-use Rattle.job_records.specs.declared.job.Job.{Job}
+use Rattle.cluster_history.specs.Pages.{page_limit}
 use Rattle.cluster_plan.specs.Kept.{kept_in}
 use Rattle.cluster_plan.proofs.PlanLemmas.{planned-refused, refused-stopped}
 use Rattle.scan_plans.proofs.ScanLemmas.{busy-scan, planned-scan}
@@ -17,6 +16,5 @@ returns-in-Some c =
 
 pub returns : goal.returns
 returns c =
-    let pages = c.in_ok-page.ensures ∙ ap (λ (jobs : List Job). page_in (page_limit c.args.seen.now.settings) c.args.at jobs) c.jobs.ensures in
-    rw c.changing.ensures (rw c.new.ensures (rw c.beginning.ensures (planned-scan (kept_in c.args.seen.now) c.args.admin c.args.at (page_limit c.args.seen.now.settings) c.len-count.result c.in_ok-page.page.items refl pages (search rules) c.in_default.is
+    rw c.changing.ensures (rw c.new.ensures (rw c.beginning.ensures (planned-scan (kept_in c.args.seen.now) c.args.admin c.args.at (page_limit c.args.seen.now.settings) c.len-count.result c.in_ok-page.page.items refl c.in_ok-page.ensures (search rules) c.in_default.is
     (λ h s. sym (c.is_running.ensures h s) ∙ c.if-not-is_running.false))))

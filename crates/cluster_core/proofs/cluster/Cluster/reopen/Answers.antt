@@ -14,7 +14,7 @@ apply-requires-clause-allowed c = subst (λ (t : Tables). AreAllowed t c.in_ok-c
 pub invariant_of-cluster : goal.invariant_of-cluster
 invariant_of-cluster c =
     let ended : c.apply.new.self.kept ≡ unsent_ended c.args.records.kept = c.apply.ensures ∙ ap (λ (t : Tables). applied_all t c.in_ok-changes.changes) c.reserve.ensures.same ∙ c.in_ok-changes.ensures.gives in
-    sound-idle _ c.apply.new.self _ (subst KeepsRules (sym ended) c.end_unsent.ensures.rules) c.in_ok-nodes.ensures
+    sound-idle _ c.apply.new.self _ _ c.new.ensures.items (subst KeepsRules (sym ended) c.end_unsent.ensures.rules) c.in_ok-nodes.ensures
 
 pub returns-clause-rows : goal.returns-clause-rows
 returns-clause-rows c =
@@ -26,9 +26,9 @@ returns-clause-ended c = c.apply.ensures ∙ ap (λ (t : Tables). applied_all t 
 pub returns-clause-opens : goal.returns-clause-opens
 returns-clause-opens c =
     let ended : c.apply.new.self.kept ≡ unsent_ended c.args.records.kept = c.apply.ensures ∙ ap (λ (t : Tables). applied_all t c.in_ok-changes.changes) c.reserve.ensures.same ∙ c.in_ok-changes.ensures.gives in
-    stands-opened _ c.args.records.kept c.apply.new.self _ ended (subst KeepsRules (sym ended) c.end_unsent.ensures.rules) c.in_ok-nodes.ensures
+    stands-opened _ c.args.records.kept c.apply.new.self _ _ c.new.ensures.items ended (subst KeepsRules (sym ended) c.end_unsent.ensures.rules) c.in_ok-nodes.ensures
 
 pub returns-clause-goes_on : goal.returns-clause-goes_on
 returns-clause-goes_on c = λ h left.
     let ended : c.apply.new.self.kept ≡ unsent_ended c.args.records.kept = c.apply.ensures ∙ ap (λ (t : Tables). applied_all t c.in_ok-changes.changes) c.reserve.ensures.same ∙ c.in_ok-changes.ensures.gives in
-    stands-on _ c.args.records.kept c.apply.new.self _ ended c.in_ok-nodes.ensures (accepted h) left
+    stands-on _ c.args.records.kept c.apply.new.self _ _ c.new.ensures.items ended c.in_ok-nodes.ensures (accepted h) left

@@ -4,18 +4,6 @@ use Rattle.job_records.proofs.records.Records.apply_one.Goals as goal
 pub put-requires-clause-rising : goal.put-requires-clause-rising
 put-requires-clause-rising c = rises-from_rising _ 0 _ _ c.self.invariant.groups.rising
 
-pub put-requires-in-PutJob-clause-rising : goal.put-requires-in-PutJob-clause-rising
-put-requires-in-PutJob-clause-rising c = rises-from_rising _ 0 _ _ c.self.invariant.jobs.rising
-
-pub take-requires : goal.take-requires
-take-requires c = rises-from_rising _ 0 _ _ c.self.invariant.jobs.rising
-
-pub put-requires-in-PutLog-clause-rising : goal.put-requires-in-PutLog-clause-rising
-put-requires-in-PutLog-clause-rising c = rises-from_rising _ 0 _ _ c.self.invariant.logs.rising
-
-pub take-requires-in-DropLog : goal.take-requires-in-DropLog
-take-requires-in-DropLog c = rises-from_rising _ 0 _ _ c.self.invariant.logs.rising
-
 pub invariant_of-self-in-DropRegistry : goal.invariant_of-self-in-DropRegistry
 invariant_of-self-in-DropRegistry c =
     rw c.drop_registration.ensures.rows (rw (c.in-DropRegistry.is, ← c.self.view_is) at c.requires.allowed)

@@ -1,0 +1,4 @@
+pub mod Entries
+pub mod Due
+pub mod LogLists
+pub mod Pages

@@ -27,6 +27,11 @@ module _ {L : Type 0} where
   GivesLink old (Ok a) new = TakesLink old a new
   GivesLink old (Err e) new = new ≡ old
 
+  -- the first of these links, and behind the last the end
+  abbrev pub first_of : List L → Accept L
+  first_of [] = accept.Ended
+  first_of (link ∷ links) = accept.Came link
+
   -- an accept met the end
   abbrev pub is_end : {E : Type 0} → Result (Accept L) E → Bool
   is_end (Ok accept.Ended) = true
@@ -53,6 +58,12 @@ module _ {L : Type 0} where
   links_in [] = []
   links_in (None ∷ rest) = links_in rest
   links_in (Some link ∷ rest) = link ∷ links_in rest
+
+  -- what comes next: a link, or none at this moment; behind the last the end
+  abbrev pub next_in : List (Option L) → Accept L
+  next_in [] = accept.Ended
+  next_in (None ∷ rest) = accept.Idle
+  next_in (Some link ∷ rest) = accept.Came link
 
   abbrev pub seen_memory : ListenerMemory L → ListenerView L
   seen_memory m = record { left = Some (links_in m.coming); met = m.met; faults = m.faults }

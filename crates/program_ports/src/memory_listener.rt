@@ -2,7 +2,9 @@
 ghost use Rattle.std.specs.Prelude.{◌≡◌, [], false, is_err, IfOk, IsTrue, IsOk};
 ghost use Rattle.outside.specs.Causes.{HasCause};
 ghost use Rattle.outside.specs.Streams.{is_to_fail};
-ghost use Rattle.program_ports.specs.Listeners.{Waits, Accepts, after_call, seen_memory};
+ghost use Rattle.std.specs.Prelude.{Some};
+ghost use Rattle.std.specs.Option.{option_map};
+ghost use Rattle.program_ports.specs.Listeners.{Waits, Accepts, after_call, first_of, next_in, seen_memory};
 
 use crate::listener::{Accept, Listener};
 use outside::{Failed, Link};
@@ -99,6 +101,7 @@ impl<L: Link> Listener for MemoryListener<L> {
 
     fn accept(&mut self) -> Result<Accept<L>, Failed>
         ensures accepts { Accepts (seen_memory self.old) (seen_memory self.new) result }
+        ensures next { IfOk result (λ a. a ≡ next_in self.old.coming) }
         ensures cause { HasCause self.old.faults self.new.faults result }
         ensures fails { is_err result ≡ is_to_fail self.old.calls self.old.failing }
     {
@@ -157,6 +160,7 @@ impl<L: Link> Listener for LinksListener<L> {
 
     fn accept(&mut self) -> Result<Accept<L>, Failed>
         ensures accepts { Accepts self.old self.new result }
+        ensures first { IfOk result (λ a. option_map first_of self.old.left ≡ Some a) }
         ensures cause { HasCause self.old.faults self.new.faults result }
         ensures never { IsOk result }
     {
